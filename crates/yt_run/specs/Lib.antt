@@ -1,0 +1,5 @@
+pub mod EdfDdm
+pub mod Plan
+pub mod Segments
+pub mod Tasks
+pub mod Ticks
