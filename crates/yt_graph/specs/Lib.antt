@@ -1,0 +1,4 @@
+pub mod Picture
+pub mod Meaning
+pub mod Within
+pub mod Cost
