@@ -1,0 +1,5 @@
+pub mod Picture
+pub mod Parts
+pub mod Meaning
+pub mod Within
+pub mod Cost
