@@ -1,5 +1,11 @@
 pub mod EdfDdm
+pub mod First
+pub mod Order
+pub mod Pattern
 pub mod Plan
+pub mod RunText
 pub mod Segments
+pub mod Serial
 pub mod Tasks
 pub mod Ticks
+pub mod Told

@@ -1,0 +1,67 @@
+-- The text of a graph that a first run takes, byte for byte.
+use Rattle.std.specs.Prelude.{◌≡◌, ◌≢◌, ℕ, ◌+◌, ◌≤◌, ◌==◌, ◌&&◌, ◌||◌, not, nat_le, nat_lt, Bool, true, false, List, [], ◌∷◌, ◌++◌, length, bytes_eq, codes, IsTrue}
+use Rattle.std.specs.List.{list_any, list_all}
+use Rattle.std.specs.Fmt.{decimal}
+use Rattle.yt_run.specs.First.{First, Operand, the_message, the_number, IsInRange}
+
+-- a letter or `_`
+abbrev pub is_letter : ℕ → Bool
+is_letter c = (nat_le 65 c && nat_le c 90) || ((nat_le 97 c && nat_le c 122) || (c == 95))
+
+abbrev pub is_digit : ℕ → Bool
+is_digit c = nat_le 48 c && nat_le c 57
+
+-- a byte of words and numbers
+abbrev pub is_word_byte : ℕ → Bool
+is_word_byte c = is_letter c || is_digit c
+
+-- words that name nothing
+abbrev pub reserved_words : List (List ℕ)
+reserved_words =
+    codes "input" ∷ codes "output" ∷ codes "resource" ∷ codes "process" ∷ codes "in" ∷ codes "var" ∷ codes "port" ∷ codes "from" ∷ codes "out" ∷
+    codes "every" ∷ codes "period" ∷ codes "let" ∷ codes "send" ∷ codes "if" ∷ codes "else" ∷ codes "repeat" ∷ codes "max" ∷ codes "and" ∷ codes "or" ∷ codes "not" ∷
+    codes "burst" ∷ codes "within" ∷ codes "native" ∷ codes "cost" ∷ codes "node" ∷ codes "link" ∷ codes "delay" ∷ []
+
+abbrev pub is_reserved : List ℕ → Bool
+is_reserved word = list_any (λ r. bytes_eq r word) reserved_words
+
+abbrev pub begins_as_word : List ℕ → Bool
+begins_as_word [] = false
+begins_as_word (c ∷ cs) = is_letter c
+
+-- a word that may name something: a letter or `_`, then letters, digits and `_`, at most 32 bytes, and not reserved
+abbrev pub is_name : List ℕ → Bool
+is_name word = begins_as_word word && (list_all is_word_byte word && (nat_le (length word) 32 && not (is_reserved word)))
+
+-- an operand, the message's number by the parameter's name
+abbrev pub operand_text : List ℕ → Operand → List ℕ
+operand_text param the_message = param
+operand_text param (the_number n) = decimal n
+
+abbrev pub more_operands : List ℕ → List Operand → List ℕ
+more_operands param [] = []
+more_operands param (x ∷ xs) = codes " + " ++ (operand_text param x ++ more_operands param xs)
+
+-- the text of the graph of these parts, whose handler calls its message's number `param`
+abbrev pub first_text : First → List ℕ → List ℕ
+first_text d param =
+    codes "input " ++ (d.input ++ (codes "(1) period " ++ (decimal d.period
+    ++ (codes "\noutput " ++ (d.output ++ (codes " from " ++ (d.process ++ (codes "." ++ (d.port ++ (codes "." ++ (d.out
+    ++ (codes "\nprocess " ++ (d.process
+    ++ (codes " {\n  port " ++ (d.port ++ (codes " from " ++ (d.input ++ (codes " (" ++ (param ++ (codes ") out " ++ (d.out
+    ++ (codes "(1) {\n    send " ++ (d.out ++ (codes " (" ++ (operand_text param d.operand ++ (more_operands param d.operands
+    ++ codes ")\n  }\n}\n"))))))))))))))))))))))))))
+
+-- the text is that of these parts, under this name of the message's number
+pub record IsFirstText (text : List ℕ) (d : First) (param : List ℕ) : Type 0 where
+  pub text : text ≡ first_text d param
+  pub in_range : IsInRange d
+  pub input : IsTrue (is_name d.input)
+  pub output : IsTrue (is_name d.output)
+  pub process : IsTrue (is_name d.process)
+  pub port : IsTrue (is_name d.port)
+  pub out : IsTrue (is_name d.out)
+  pub param : IsTrue (is_name param)
+  pub input_output : d.input ≢ d.output
+  pub input_process : d.input ≢ d.process
+  pub output_process : d.output ≢ d.process

@@ -1,0 +1,4 @@
+pub mod Code
+pub mod FirstText
+pub mod TraceText
+pub mod Words

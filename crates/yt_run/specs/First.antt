@@ -1,0 +1,107 @@
+-- The graphs that a first run takes: one input, one port without variables, whose handler sends a sum, and one output.
+use Rattle.std.specs.Prelude.{◌≡◌, ℕ, ◌+◌, ◌<◌, ◌≤◌, ◌^◌, List, [], ◌∷◌, length, map, All, ℤ, pos}
+use Rattle.yt_graph.specs.declared.expr.Op2.TheVariants.{Add}
+use Rattle.yt_graph.specs.declared.graph.Input.{Input}
+use Rattle.yt_graph.specs.declared.graph.Output.{Output}
+use Rattle.yt_graph.specs.declared.port.OutHead.{OutHead}
+use Rattle.yt_graph.specs.declared.port.Feed.TheVariants.{Input as FromInput}
+use Rattle.yt_graph.specs.Picture.{ExprTree, num, local, two, no_exprs, more_exprs, send, empty, more, GraphTree, PortTree}
+use Rattle.yt_graph.specs.Cost.{greatest_cost}
+use Rattle.yt_run.specs.declared.trace.Message.{Message}
+use Rattle.yt_run.specs.Serial.{the_port, period_of}
+
+-- what a sum adds: the message's number, or a number that is written
+pub data Operand : Type 0 where
+  the_message : Operand
+  the_number : ℕ → Operand
+
+-- the parts of such a graph: its names, its input's period, and the operands of its sum, the first of them apart
+pub record First : Type 0 where
+  pub input : List ℕ
+  pub output : List ℕ
+  pub process : List ℕ
+  pub port : List ℕ
+  pub out : List ℕ
+  pub period : ℕ
+  pub operand : Operand
+  pub operands : List Operand
+
+abbrev pub leaf : Operand → ExprTree
+leaf the_message = local 0
+leaf (the_number n) = num (pos n)
+
+-- the sum so far and then these, from the left
+abbrev pub sum_after : ExprTree → List Operand → ExprTree
+sum_after sum [] = sum
+sum_after sum (x ∷ xs) = sum_after (two Add sum (leaf x)) xs
+
+abbrev pub port_of : First → PortTree
+port_of d = record {
+  process = d.process;
+  name = d.port;
+  feed = FromInput 1;
+  group = 0;
+  params = 1;
+  locals = 1;
+  outs = (record { name = d.out; width = 1; every = 1 }) ∷ [];
+  body = more (send 1 (more_exprs (sum_after (leaf d.operand) d.operands) no_exprs)) empty;
+}
+
+-- the graph of these parts
+abbrev pub graph_of : First → GraphTree
+graph_of d = record {
+  inputs = (record { name = d.input; width = 1; period = d.period }) ∷ [];
+  outputs = (record { name = d.output; port = 1; out = 1 }) ∷ [];
+  groups = [];
+  vars = [];
+  ports = port_of d ∷ [];
+}
+
+abbrev pub IsSmallOperand : Operand → Type 0
+IsSmallOperand the_message = Unit {0}
+IsSmallOperand (the_number n) = n < 2 ^ 63
+
+abbrev pub AreSmallOperands : List Operand → Type 0
+AreSmallOperands [] = Unit {0}
+AreSmallOperands (x ∷ xs) = IsSmallOperand x × AreSmallOperands xs
+
+-- the numbers are in their ranges
+pub record IsInRange (d : First) : Type 0 where
+  pub some : 1 ≤ d.period
+  pub most : d.period ≤ 1000000
+  pub few : length d.operands < 32
+  pub first : IsSmallOperand d.operand
+  pub others : AreSmallOperands d.operands
+
+-- a graph that a first run takes
+abbrev pub IsFirstGraph : GraphTree → Type 0
+IsFirstGraph graph = (d : First) × IsInRange d × (graph ≡ graph_of d)
+
+-- the greatest cost of the handler is within its period
+abbrev pub FitsFirst : GraphTree → Type 0
+FitsFirst graph = greatest_cost (the_port graph) ≤ period_of graph
+
+-- each message is one number of the first input, at most 4,000,000 ticks from the start
+pub record IsFirstMessage (message : Message) : Type 0 where
+  pub first : message.input ≡ 1
+  pub one : length message.values ≡ 1
+  pub soon : message.time ≤ 4000000
+
+abbrev pub AreFirstMessages : List Message → Type 0
+AreFirstMessages [] = Unit {0}
+AreFirstMessages (message ∷ trace) = IsFirstMessage message × AreFirstMessages trace
+
+-- no message comes sooner than a period after the one before
+abbrev pub AreSpaced : ℕ → List Message → Type 0
+AreSpaced period [] = Unit {0}
+AreSpaced period (message ∷ trace) = ComeLater trace × AreSpaced period trace
+  where
+    ComeLater : List Message → Type 0
+    ComeLater [] = Unit {0}
+    ComeLater (next ∷ rest) = message.time + period ≤ next.time
+
+-- a trace that keeps the graph's period
+pub record KeepsPeriod (graph : GraphTree) (trace : List Message) : Type 0 where
+  pub messages : AreFirstMessages trace
+  pub spaced : AreSpaced (period_of graph) trace
+  pub few : length trace ≤ 200000

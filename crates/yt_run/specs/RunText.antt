@@ -1,0 +1,118 @@
+-- The printed text of a run, and how a log and output lines are read back from it.
+use Rattle.std.specs.Prelude.{◌≡◌, ℕ, zero, suc, ◌+◌, ◌-◌, ◌==◌, nat_lt, Bool, List, [], ◌∷◌, ◌++◌, Option, Some, None, ℤ, length, map, flat_map, option_map, slice_index_or, bytes_eq, codes, unwrap_or, if◌then◌else◌}
+use Rattle.std.specs.List.{onto_first, filter_map}
+use Rattle.std.specs.Fmt.{decimal, signed_decimal}
+use Rattle.yt_base.specs.Digits.{value_of, signed_of_text}
+use Rattle.yt_graph.specs.declared.graph.Output.{Output}
+use Rattle.yt_graph.specs.Picture.{GraphTree, PortTree}
+use Rattle.yt_run.specs.declared.job.Job.{Job}
+use Rattle.yt_run.specs.declared.job.Segment.{Segment}
+use Rattle.yt_run.specs.declared.told.OutLine.{OutLine}
+use Rattle.yt_run.specs.Ticks.{Ticks}
+use Rattle.yt_run.specs.Segments.{segments_of, ticks_of}
+use Rattle.yt_run.specs.Serial.{no_port}
+
+-- a port's name in a text: its process's, a dot, and its own
+abbrev pub label_of : PortTree → List ℕ
+label_of port = port.process ++ 46 ∷ port.name
+
+-- the name of the port of a number, from 1
+abbrev pub port_label : GraphTree → ℕ → List ℕ
+port_label graph number = label_of (slice_index_or graph.ports (number - 1) no_port)
+
+abbrev pub no_output : Output
+no_output = record { name = []; port = 0; out = 0 }
+
+-- the name of the output of a number, from 1
+abbrev pub output_name : GraphTree → ℕ → List ℕ
+output_name graph number = (slice_index_or graph.outputs (number - 1) no_output).name
+
+-- `run FROM TO PORT NUMBER`
+abbrev pub segment_line : GraphTree → Segment → List ℕ
+segment_line graph s =
+    codes "run " ++ (decimal s.from ++ (32 ∷ decimal s.to ++ (32 ∷ port_label graph s.job.task ++ (32 ∷ decimal s.job.number ++ 10 ∷ []))))
+
+-- each number behind a space
+abbrev pub spaced_values : List ℤ → List ℕ
+spaced_values [] = []
+spaced_values (v ∷ vs) = 32 ∷ signed_decimal v ++ spaced_values vs
+
+-- `out TIME OUTPUT VALUE ..`
+abbrev pub out_line : GraphTree → OutLine → List ℕ
+out_line graph l = codes "out " ++ (decimal l.time ++ (32 ∷ output_name graph l.output ++ (spaced_values l.values ++ 10 ∷ [])))
+
+-- `end TIME`
+abbrev pub end_line : ℕ → List ℕ
+end_line time = codes "end " ++ (decimal time ++ 10 ∷ [])
+
+abbrev pub out_lines : GraphTree → List OutLine → List ℕ
+out_lines graph [] = []
+out_lines graph (l ∷ lines) = out_line graph l ++ out_lines graph lines
+
+-- the lines before a segment's end, the segment, and what is left
+abbrev pub around_segment : GraphTree → Segment → (List OutLine → List ℕ) → List OutLine → List ℕ
+around_segment graph s rest [] = segment_line graph s ++ rest []
+around_segment graph s rest (l ∷ lines) =
+    if nat_lt l.time s.to then out_line graph l ++ around_segment graph s rest lines else segment_line graph s ++ rest (l ∷ lines)
+
+-- segments at their ends and lines at their times, a segment before the lines of its end
+abbrev pub told_text : GraphTree → List Segment → List OutLine → List ℕ
+told_text graph [] lines = out_lines graph lines
+told_text graph (s ∷ segments) lines = around_segment graph s (told_text graph segments) lines
+
+-- the text of a run
+abbrev pub run_text : GraphTree → Ticks → List OutLine → List ℕ
+run_text graph log lines = told_text graph (segments_of log) lines ++ end_line (length log)
+
+-- the pieces between the bytes c
+abbrev pub pieces : ℕ → List ℕ → List (List ℕ)
+pieces c [] = [] ∷ []
+pieces c (b ∷ bs) = if b == c then [] ∷ pieces c bs else onto_first b (pieces c bs)
+
+-- the place of the first label that is this one, from 1, 0 where none is
+abbrev pub number_in : List (List ℕ) → List ℕ → ℕ
+number_in [] label = 0
+number_in (l ∷ labels) label = if bytes_eq l label then 1 else (if number_in labels label == 0 then 0 else suc (number_in labels label))
+
+abbrev pub values_in : List (List ℕ) → List ℤ
+values_in fields = filter_map signed_of_text fields
+
+-- the segment of a `run` line
+abbrev pub read_segment : GraphTree → List (List ℕ) → Option Segment
+read_segment graph (word ∷ from ∷ to ∷ label ∷ number ∷ []) =
+    if bytes_eq word (codes "run")
+    then Some (record { from = value_of from; to = value_of to; job = record { task = number_in (map label_of graph.ports) label; number = value_of number } })
+    else None
+read_segment graph fields = None
+
+-- the output line of an `out` line
+abbrev pub read_out : GraphTree → List (List ℕ) → Option OutLine
+read_out graph (word ∷ time ∷ name ∷ values) =
+    if bytes_eq word (codes "out")
+    then Some (record { time = value_of time; output = number_in (map (λ (o : Output). o.name) graph.outputs) name; values = values_in values })
+    else None
+read_out graph fields = None
+
+-- the time of an `end` line
+abbrev pub read_end : List (List ℕ) → Option ℕ
+read_end (word ∷ time ∷ []) = if bytes_eq word (codes "end") then Some (value_of time) else None
+read_end fields = None
+
+-- the fields of each line of a text
+abbrev pub fields_of : List ℕ → List (List (List ℕ))
+fields_of text = map (pieces 32) (pieces 10 text)
+
+-- what is read back from a run's text: the log and the output lines
+pub record ReadBack : Type 0 where
+  pub log : Ticks
+  pub lines : List OutLine
+
+abbrev pub first_or_zero : List ℕ → ℕ
+first_or_zero [] = 0
+first_or_zero (n ∷ ns) = n
+
+abbrev pub read_back : GraphTree → List ℕ → ReadBack
+read_back graph text = record {
+  log = ticks_of (filter_map (read_segment graph) (fields_of text)) (first_or_zero (filter_map read_end (fields_of text)));
+  lines = filter_map (read_out graph) (fields_of text);
+}
