@@ -54,14 +54,14 @@ first_text d param =
 
 -- the text is that of these parts, under this name of the message's number
 pub record IsFirstText (text : List ℕ) (d : First) (param : List ℕ) : Type 0 where
-  pub text : text ≡ first_text d param
+  pub spelled : text ≡ first_text d param
   pub in_range : IsInRange d
   pub input : IsTrue (is_name d.input)
   pub output : IsTrue (is_name d.output)
   pub process : IsTrue (is_name d.process)
   pub port : IsTrue (is_name d.port)
   pub out : IsTrue (is_name d.out)
-  pub param : IsTrue (is_name param)
+  pub parameter : IsTrue (is_name param)
   pub input_output : d.input ≢ d.output
   pub input_process : d.input ≢ d.process
   pub output_process : d.output ≢ d.process

@@ -28,8 +28,8 @@ messages_in (m ∷ ms) = one_number m.0 m.1 ∷ messages_in ms
 -- the text is that of these messages of the input
 pub record IsTraceText (text : List ℕ) (input : List ℕ) (trace : List Message) : Type 0 where
   pub pairs : List (ℕ × ℤ)
-  pub text : text ≡ trace_text input pairs
-  pub trace : trace ≡ messages_in pairs
+  pub spelled : text ≡ trace_text input pairs
+  pub read : trace ≡ messages_in pairs
   pub in_range : AreInRange pairs
   pub few : length pairs ≤ 200000
 
