@@ -1,4 +1,10 @@
+pub mod Answer
+pub mod Causes
 pub mod Code
+pub mod FirstParts
+pub mod FirstReading
 pub mod FirstText
+pub mod OverloadText
+pub mod Split
 pub mod TraceText
 pub mod Words

@@ -3,6 +3,8 @@ use Rattle.std.specs.Prelude.{◌≡◌, ℕ, suc, ◌+◌, ◌≤◌, nat_lt, L
 use Rattle.std.specs.Int.{w64}
 use Rattle.std.specs.Fmt.{decimal, signed_decimal}
 use Rattle.yt_run.specs.declared.trace.Message.{Message}
+use Rattle.yartos.specs.declared.trace.fault.TraceFault.{TraceFault}
+use Rattle.yartos.specs.declared.trace.fault.TraceFault.TheVariants.{Order, Soon}
 
 -- `TIME INPUT VALUE`
 abbrev pub message_line : List ℕ → ℕ → ℤ → List ℕ
@@ -33,30 +35,25 @@ pub record IsTraceText (text : List ℕ) (input : List ℕ) (trace : List Messag
   pub in_range : AreInRange pairs
   pub few : length pairs ≤ 200000
 
--- how a line of a trace breaks its order: it comes before the line above, or sooner than a period after it
-pub data Breach : Type 0 where
-  order : ℕ → Breach
-  soon : ℕ → ℕ → Breach
+-- the fault of a line, behind a line of a time
+abbrev pub fault_of : ℕ → ℕ → ℕ → ℕ → Option TraceFault
+fault_of period line last time =
+    if nat_lt time last then Some (Order line) else (if nat_lt time (last + period) then Some (Soon line (last + period)) else None)
 
--- the breach of a line, behind a line of a time
-abbrev pub breach_of : ℕ → ℕ → ℕ → ℕ → Option Breach
-breach_of period line last time =
-    if nat_lt time last then Some (order line) else (if nat_lt time (last + period) then Some (soon line (last + period)) else None)
-
--- the first breach of the lines from this number on, behind a line of a time
-abbrev pub breach_after : ℕ → ℕ → ℕ → List Message → Option Breach
-breach_after period line last [] = None
-breach_after period line last (message ∷ trace) = or_else (breach_of period line last message.time) (breach_after period (suc line) message.time trace)
+-- the first fault of the lines from this number on, behind a line of a time
+abbrev pub fault_after : ℕ → ℕ → ℕ → List Message → Option TraceFault
+fault_after period line last [] = None
+fault_after period line last (message ∷ trace) = or_else (fault_of period line last message.time) (fault_after period (suc line) message.time trace)
   where
-    or_else : Option Breach → Option Breach → Option Breach
+    or_else : Option TraceFault → Option TraceFault → Option TraceFault
     or_else None later = later
-    or_else (Some breach) later = Some breach
+    or_else (Some fault) later = Some fault
 
--- the first breach of a trace, its lines numbered from 1
-abbrev pub breach_in : ℕ → List Message → Option Breach
-breach_in period [] = None
-breach_in period (message ∷ trace) = breach_after period 2 message.time trace
+-- the first fault of a trace, its lines numbered from 1
+abbrev pub fault_in : ℕ → List Message → Option TraceFault
+fault_in period [] = None
+fault_in period (message ∷ trace) = fault_after period 2 message.time trace
 
-abbrev pub breach_text : Breach → List ℕ
-breach_text (order line) = codes "trace " ++ (decimal line ++ codes " order\n")
-breach_text (soon line least) = codes "trace " ++ (decimal line ++ (codes " soon " ++ (decimal least ++ 10 ∷ [])))
+abbrev pub fault_text : TraceFault → List ℕ
+fault_text (Order line) = codes "trace " ++ (decimal line ++ codes " order\n")
+fault_text (Soon line least) = codes "trace " ++ (decimal line ++ (codes " soon " ++ (decimal least ++ 10 ∷ [])))

@@ -1,5 +1,6 @@
 -- The words of a command.
 use Rattle.std.specs.Prelude.{ℕ, List, [], ◌∷◌, map, Bool, true, not, ◌&&◌, ◌==◌, String, string_bytes, Option, Some, None, if◌then◌else◌, bytes_eq, codes}
+use Rattle.std.specs.Borrow.{Bor}
 use Rattle.std.specs.declared.alloc.Global.{Global}
 
 -- the bytes of each word
@@ -15,6 +16,10 @@ names_file (c ∷ cs) = not (c == 45)
 pub record Files : Type 0 where
   pub graph : List ℕ
   pub trace : List ℕ
+
+-- the files of two words
+abbrev pub files_named : Bor (List ℕ) × Bor (List ℕ) → Files
+files_named (graph, trace) = record { graph = graph.now; trace = trace.now }
 
 -- the files of the words `run GRAPH TRACE`
 abbrev pub run_files : List (List ℕ) → Option Files

@@ -5,11 +5,11 @@ ghost use Rattle.yt_base.specs.Digits.{digits_of_text, signed_of_text, then_byte
 /// What a text says as a number without a sign. Leading zeros are digits like others.
 #[derive(Clone, Copy, Debug, PartialEq, Eq)]
 pub enum Decimal {
-    /// The text is empty, or has a byte that is no digit.
+    /// No number: no bytes, or one among them that is none of `0` to `9`.
     Other,
-    /// The text is of digits whose value passes 2^64 - 1.
+    /// Digits whose value passes 2^64 - 1.
     Over,
-    /// The text is of digits with this value.
+    /// Digits, and what they are worth.
     Value(u64),
 }
 

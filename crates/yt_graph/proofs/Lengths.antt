@@ -1,9 +1,9 @@
 -- A run keeps the number of locals and of variables.
-use Rattle.std.proofs.Common.{◌≡◌, ℕ, zero, suc, ◌+◌, length, refl, ◌∙◌}
-use Rattle.std.specs.Prelude.{Bool, true, false}
+use Rattle.std.proofs.Common.{◌≡◌, ℕ, zero, suc, ◌+◌, List, length, refl, ◌∙◌}
+use Rattle.std.specs.Prelude.{Bool, true, false, ℤ}
 use Rattle.std.proofs.Math.ListN.{length-set}
-use Rattle.yt_graph.specs.Picture.{StmtTree, set_local, set_var, send, if_only, if_else, repeat, BlockTree, empty, more}
-use Rattle.yt_graph.specs.Meaning.{Run, expr_value, expr_ticks, spend, is_not_zero, choose, turns_of, turns, stmt_run, block_run}
+use Rattle.yt_graph.specs.Picture.{StmtTree, set_local, set_var, send, if_only, if_else, repeat, BlockTree, empty, more, PortTree}
+use Rattle.yt_graph.specs.Meaning.{Run, expr_value, expr_ticks, spend, is_not_zero, choose, turns_of, turns, stmt_run, block_run, start, handling}
 
 -- the same numbers of locals and variables
 pub record SameSize (s t : Run) : Type 0 where
@@ -44,3 +44,7 @@ mutual
   pub block_keeps : (b : BlockTree) → Keeps (block_run b)
   block_keeps empty s = record { locals = refl; vars = refl }
   block_keeps (more a rest) s = same_trans s (stmt_run a s) _ (stmt_keeps a s) (block_keeps rest (stmt_run a s))
+
+-- a handling keeps the number of variables
+pub handling_vars : (port : PortTree) (msg vars : List ℤ) → length (handling port msg vars).vars ≡ length vars
+handling_vars port msg vars = (block_keeps port.body (start port.locals msg vars)).vars

@@ -1,3 +1,5 @@
+mod Examples
 pub mod Lengths
 pub mod Pictures
+pub mod Values
 pub mod Within

@@ -4,6 +4,7 @@ use Rattle.yt_graph.specs.declared.handled.SendItem.{SendItem}
 use Rattle.yt_graph.specs.Picture.{StmtTree, set_local, set_var, send, if_only, if_else, repeat, BlockTree, empty, more, PortTree}
 use Rattle.yt_graph.specs.Meaning.{expr_ticks, all_ticks, handling}
 
+-- the most ticks that a statement or a block can take
 abbrev mutual
   pub stmt_cost : StmtTree → ℕ
   stmt_cost (set_local i e) = expr_ticks e + 1
@@ -25,6 +26,7 @@ greatest_cost port = block_cost port.body + 1
 abbrev pub one_if_same : ℕ → ℕ → ℕ
 one_if_same a b = if a == b then 1 else 0
 
+-- the most messages that a statement or a block can send on an out
 abbrev mutual
   pub stmt_sends : ℕ → StmtTree → ℕ
   stmt_sends out (set_local i e) = 0

@@ -1,5 +1,4 @@
 pub mod Picture
 pub mod Parts
 pub mod Meaning
-pub mod Within
 pub mod Cost

@@ -98,13 +98,15 @@ abbrev mutual
 abbrev pub spend : ℕ → Run → Run
 spend n s = record s { ticks = s.ticks + n }
 
+-- a local has a new value
 abbrev pub store_local : ℕ → ℤ → Run → Run
 store_local i x s = record s { locals = slice_set s.locals i x }
 
--- the write happens in the tick that comes next
+-- a variable has a new value: the write happens in the tick that comes next
 abbrev pub store_var : ℕ → ℤ → Run → Run
 store_var i x s = record s { vars = slice_set s.vars i x; writes = s.writes ++ (record { offset = s.ticks; variable = i; value = x }) ∷ [] }
 
+-- one message more
 abbrev pub send_on : ℕ → List ℤ → Run → Run
 send_on o xs s = record s { sends = s.sends ++ (record { out = o; values = xs }) ∷ [] }
 
@@ -123,6 +125,7 @@ abbrev pub turns : ℕ → (Run → Run) → Run → Run
 turns zero body s = s
 turns (suc n) body s = turns n body (body s)
 
+-- a statement's and a block's run, by what ran before
 abbrev mutual
   pub stmt_run : StmtTree → Run → Run
   stmt_run (set_local i e) s = spend 1 (store_local i (expr_value e s.locals s.vars) (spend (expr_ticks e) s))
@@ -137,10 +140,6 @@ abbrev mutual
   pub block_run : BlockTree → Run → Run
   block_run empty s = s
   block_run (more a rest) s = block_run rest (stmt_run a s)
-
--- one turn of a loop: the body, and one tick to go back
-abbrev pub turn_run : BlockTree → Run → Run
-turn_run body s = spend 1 (block_run body s)
 
 -- the start of a handler: its parameters hold the message, and its other locals 0
 abbrev pub start : ℕ → List ℤ → List ℤ → Run
@@ -158,6 +157,7 @@ pub record Handling : Type 0 where
   pub ticks : ℕ
   pub writes : List Write
 
+-- what a run leaves
 abbrev pub handling_of : Run → Handling
 handling_of s = record { vars = s.vars; sends = s.sends; ticks = s.ticks; writes = s.writes }
 

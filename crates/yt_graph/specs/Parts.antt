@@ -5,6 +5,7 @@ use Rattle.yt_graph.specs.declared.parts.Parts.TheVariants.{SetLocal, SetVar, Se
 use Rattle.yt_graph.specs.declared.parts.ExprParts.TheVariants.{Num, Local, Var, Neg, Not, Two, Call}
 use Rattle.yt_graph.specs.Picture.{ExprTree, num, local, var, neg, lnot, two, call, ExprsTree, no_exprs, more_exprs, StmtTree, set_local, set_var, send, if_only, if_else, repeat, BlockTree, empty, more, expr_tree, exprs_tree, block_tree}
 
+-- the picture of an expression that is opened
 abbrev pub expr_parts_tree : declared.ExprParts.ExprParts → ExprTree
 expr_parts_tree (Num n) = num n
 expr_parts_tree (Local i) = local i
@@ -14,6 +15,7 @@ expr_parts_tree (Not e) = lnot (expr_tree e.now)
 expr_parts_tree (Two op l r) = two op (expr_tree l.now) (expr_tree r.now)
 expr_parts_tree (Call op code ticks args) = call op code ticks (exprs_tree args.now)
 
+-- the picture of a statement that is opened
 abbrev pub parts_tree : declared.Parts.Parts → StmtTree
 parts_tree (SetLocal i e) = set_local i (expr_tree e.now)
 parts_tree (SetVar i e) = set_var i (expr_tree e.now)
@@ -22,6 +24,7 @@ parts_tree (Only e first) = if_only (expr_tree e.now) (block_tree first.now)
 parts_tree (Else e first second) = if_else (expr_tree e.now) (block_tree first.now) (block_tree second.now)
 parts_tree (Repeat e most body) = repeat (expr_tree e.now) most (block_tree body.now)
 
+-- an expression weighs more than each of its parts
 abbrev mutual
   pub expr_weight : ExprTree → ℕ
   expr_weight (num n) = 1
@@ -36,6 +39,7 @@ abbrev mutual
   exprs_weight no_exprs = 0
   exprs_weight (more_exprs e rest) = 1 + expr_weight e + exprs_weight rest
 
+-- a statement weighs more than each of its blocks, and a block more than each of its statements
 abbrev mutual
   pub stmt_weight : StmtTree → ℕ
   stmt_weight (set_local i e) = 1

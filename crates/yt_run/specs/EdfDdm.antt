@@ -1,11 +1,11 @@
--- Earliest deadline first with dynamic deadline modification: a job that keeps a resource has an earlier deadline from its first tick on.
+-- Earliest deadline first with dynamic deadline modification: the deadline of a job under a resource may be lowered once it has begun.
 use Rattle.std.specs.Prelude.{◌≡◌, ℕ, ◌+◌, ◌<◌, ◌==◌, ◌&&◌, ◌||◌, min, Bool, true, false, nat_lt, nat_le, List, [], ◌∷◌, Option, Some, None, length, if◌then◌else◌}
 use Rattle.yt_run.specs.declared.job.Job.{Job}
 use Rattle.yt_run.specs.Tasks.{Task, floor_of}
 use Rattle.yt_run.specs.Plan.{Item, its_task, deadline_of}
 use Rattle.yt_run.specs.Ticks.{Ticks, tick, done, first_tick}
 
--- an item's deadline at t: once a job that keeps a resource has begun, it is due before a sharer that arrives later can be
+-- an item's deadline at t: after the first tick of a job under a resource, it is due no later than any sharer that arrives after that tick
 unfoldable pub current_deadline : List Task → Ticks → ℕ → Item → ℕ
 current_deadline tasks log t item =
     if (done log item.job t == 0) || ((its_task tasks item).resource == 0)

@@ -1,13 +1,12 @@
--- The graphs that a first run takes: one input, one port without variables, whose handler sends a sum, and one output.
-use Rattle.std.specs.Prelude.{◌≡◌, ℕ, ◌+◌, ◌<◌, ◌≤◌, ◌^◌, List, [], ◌∷◌, length, map, All, ℤ, pos}
+-- The graphs that `run_first` takes: one input, one port without variables, whose handler sends a sum, and one output.
+use Rattle.std.specs.Prelude.{◌≡◌, ℕ, ◌+◌, ◌-◌, ◌<◌, ◌≤◌, ◌^◌, List, [], ◌∷◌, ◌++◌, length, replicate, pos}
 use Rattle.yt_graph.specs.declared.expr.Op2.TheVariants.{Add}
-use Rattle.yt_graph.specs.declared.graph.Input.{Input}
-use Rattle.yt_graph.specs.declared.graph.Output.{Output}
-use Rattle.yt_graph.specs.declared.port.OutHead.{OutHead}
 use Rattle.yt_graph.specs.declared.port.Feed.TheVariants.{Input as FromInput}
 use Rattle.yt_graph.specs.Picture.{ExprTree, num, local, two, no_exprs, more_exprs, send, empty, more, GraphTree, PortTree}
+use Rattle.yt_graph.specs.Meaning.{expr_value}
 use Rattle.yt_graph.specs.Cost.{greatest_cost}
 use Rattle.yt_run.specs.declared.trace.Message.{Message}
+use Rattle.yt_run.specs.declared.told.OutLine.{OutLine}
 use Rattle.yt_run.specs.Serial.{the_port, period_of}
 
 -- what a sum adds: the message's number, or a number that is written
@@ -73,9 +72,25 @@ pub record IsInRange (d : First) : Type 0 where
   pub first : IsSmallOperand d.operand
   pub others : AreSmallOperands d.operands
 
--- a graph that a first run takes
+-- a graph that `run_first` takes
 abbrev pub IsFirstGraph : GraphTree → Type 0
 IsFirstGraph graph = (d : First) × IsInRange d × (graph ≡ graph_of d)
+
+-- a sum of numbers and of the message's number
+abbrev pub IsSum : ExprTree → Type 0
+IsSum (num n) = Unit {0}
+IsSum (local i) = i ≡ 0
+IsSum (two op l r) = (op ≡ Add) × IsSum l × IsSum r
+IsSum e = ⊥
+
+-- the port's handler sends this one number on its first out, and does nothing else
+abbrev pub IsSent : ExprTree → PortTree → Type 0
+IsSent e port = port.body ≡ more (send 1 (more_exprs e no_exprs)) empty
+
+-- what is shown of a message, a period behind it, where the handler sends this expression
+abbrev pub line_with : ExprTree → ℕ → Message → OutLine
+line_with e period message =
+    record { time = message.time + period; output = 1; values = expr_value e (message.values ++ replicate (1 - length message.values) (pos 0)) [] ∷ [] }
 
 -- the greatest cost of the handler is within its period
 abbrev pub FitsFirst : GraphTree → Type 0
@@ -85,7 +100,7 @@ FitsFirst graph = greatest_cost (the_port graph) ≤ period_of graph
 pub record IsFirstMessage (message : Message) : Type 0 where
   pub first : message.input ≡ 1
   pub one : length message.values ≡ 1
-  pub soon : message.time ≤ 4000000
+  pub in_time : message.time ≤ 4000000
 
 abbrev pub AreFirstMessages : List Message → Type 0
 AreFirstMessages [] = Unit {0}

@@ -1,8 +1,10 @@
+pub mod Alone
 pub mod EdfDdm
 pub mod First
 pub mod Order
 pub mod Pattern
 pub mod Plan
+pub mod Readable
 pub mod RunText
 pub mod Segments
 pub mod Serial

@@ -1,5 +1,5 @@
 -- Patterns: arrivals that show that a set does not fit.
-use Rattle.std.specs.Prelude.{◌≡◌, ℕ, zero, suc, ◌+◌, ◌*◌, ◌≤◌, List, [], ◌∷◌, ◌++◌, length}
+use Rattle.std.specs.Prelude.{ℕ, zero, suc, ◌+◌, ◌*◌, ◌≤◌, List, [], ◌∷◌, ◌++◌, length}
 use Rattle.yt_graph.specs.Picture.{GraphTree}
 use Rattle.yt_graph.specs.Cost.{greatest_cost}
 use Rattle.yt_run.specs.Tasks.{Task}

@@ -1,11 +1,10 @@
 -- The printed text of a run, and how a log and output lines are read back from it.
-use Rattle.std.specs.Prelude.{◌≡◌, ℕ, zero, suc, ◌+◌, ◌-◌, ◌==◌, nat_lt, Bool, List, [], ◌∷◌, ◌++◌, Option, Some, None, ℤ, length, map, flat_map, option_map, slice_index_or, bytes_eq, codes, unwrap_or, if◌then◌else◌}
+use Rattle.std.specs.Prelude.{ℕ, suc, ◌-◌, ◌==◌, nat_lt, List, [], ◌∷◌, ◌++◌, Option, Some, None, ℤ, length, map, slice_index_or, bytes_eq, codes, if◌then◌else◌}
 use Rattle.std.specs.List.{onto_first, filter_map}
 use Rattle.std.specs.Fmt.{decimal, signed_decimal}
 use Rattle.yt_base.specs.Digits.{value_of, signed_of_text}
 use Rattle.yt_graph.specs.declared.graph.Output.{Output}
 use Rattle.yt_graph.specs.Picture.{GraphTree, PortTree}
-use Rattle.yt_run.specs.declared.job.Job.{Job}
 use Rattle.yt_run.specs.declared.job.Segment.{Segment}
 use Rattle.yt_run.specs.declared.told.OutLine.{OutLine}
 use Rattle.yt_run.specs.Ticks.{Ticks}
@@ -64,10 +63,10 @@ told_text graph (s ∷ segments) lines = around_segment graph s (told_text graph
 abbrev pub run_text : GraphTree → Ticks → List OutLine → List ℕ
 run_text graph log lines = told_text graph (segments_of log) lines ++ end_line (length log)
 
--- the pieces between the bytes c
-abbrev pub pieces : ℕ → List ℕ → List (List ℕ)
-pieces c [] = [] ∷ []
-pieces c (b ∷ bs) = if b == c then [] ∷ pieces c bs else onto_first b (pieces c bs)
+-- the parts between the bytes c
+abbrev pub parts_between : ℕ → List ℕ → List (List ℕ)
+parts_between c [] = [] ∷ []
+parts_between c (b ∷ bs) = if b == c then [] ∷ parts_between c bs else onto_first b (parts_between c bs)
 
 -- the place of the first label that is this one, from 1, 0 where none is
 abbrev pub number_in : List (List ℕ) → List ℕ → ℕ
@@ -99,8 +98,8 @@ read_end (word ∷ time ∷ []) = if bytes_eq word (codes "end") then Some (valu
 read_end fields = None
 
 -- the fields of each line of a text
-abbrev pub fields_of : List ℕ → List (List (List ℕ))
-fields_of text = map (pieces 32) (pieces 10 text)
+abbrev pub line_fields : List ℕ → List (List (List ℕ))
+line_fields text = map (parts_between 32) (parts_between 10 text)
 
 -- what is read back from a run's text: the log and the output lines
 pub record ReadBack : Type 0 where
@@ -113,6 +112,6 @@ first_or_zero (n ∷ ns) = n
 
 abbrev pub read_back : GraphTree → List ℕ → ReadBack
 read_back graph text = record {
-  log = ticks_of (filter_map (read_segment graph) (fields_of text)) (first_or_zero (filter_map read_end (fields_of text)));
-  lines = filter_map (read_out graph) (fields_of text);
+  log = ticks_of (filter_map (read_segment graph) (line_fields text)) (first_or_zero (filter_map read_end (line_fields text)));
+  lines = filter_map (read_out graph) (line_fields text);
 }

@@ -1,25 +1,28 @@
 -- The run-length form of a log: its maximal segments, and the ticks that segments stand for.
-use Rattle.std.specs.Prelude.{ℕ, zero, suc, ◌+◌, ◌-◌, ◌==◌, ◌&&◌, nat_lt, nat_le, List, [], ◌∷◌, ◌++◌, Option, Some, None, length, slice_index_or, slice_set, if◌then◌else◌}
+use Rattle.std.specs.Prelude.{ℕ, zero, suc, ◌-◌, ◌<◌, ◌≤◌, ◌==◌, ◌&&◌, Bool, false, nat_lt, nat_le, List, [], ◌∷◌, ◌++◌, Option, Some, None, length, slice_index_or, slice_set, if◌then◌else◌}
 use Rattle.yt_run.specs.declared.job.Job.{Job}
 use Rattle.yt_run.specs.declared.job.Segment.{Segment}
 use Rattle.yt_run.specs.Plan.{same_job}
 use Rattle.yt_run.specs.Ticks.{Ticks, tick}
 
--- a segment of one tick
-abbrev pub one_tick : ℕ → Job → Segment
-one_tick t job = record { from = t; to = suc t; job = job }
+-- there is a last segment, and it ends at tick `end` and is of the job
+unfoldable pub ends_in : List Segment → ℕ → Job → Bool
+ends_in [] end job = false
+ends_in (first ∷ others) end job =
+    let last = slice_index_or (first ∷ others) (length others) first in
+    (last.to == end) && same_job last.job job
 
--- the segments after tick t went to a job: the last one goes on, where it ends at t and is of the job
-unfoldable pub with_job : List Segment → ℕ → Job → List Segment
-with_job segments t job =
-    let last = slice_index_or segments (length segments - 1) (one_tick t job) in
-    if nat_lt 0 (length segments) && ((last.to == t) && same_job last.job job)
-    then slice_set segments (length segments - 1) (record last { to = suc t })
-    else segments ++ one_tick t job ∷ []
+-- the segments after the ticks from `from` to before `to` went to a job: the last one goes on, where it ends at `from` and is of the job
+unfoldable pub with_run : List Segment → ℕ → ℕ → Job → List Segment
+with_run segments from to job =
+    let run : Segment = record { from = from; to = to; job = job } in
+    let last = slice_index_or segments (length segments - 1) run in
+    if ends_in segments from job then slice_set segments (length segments - 1) (record last { to = to }) else segments ++ run ∷ []
 
+-- the segments after tick t
 unfoldable pub with_tick : List Segment → ℕ → Option Job → List Segment
 with_tick segments t None = segments
-with_tick segments t (Some job) = with_job segments t job
+with_tick segments t (Some job) = with_run segments t (suc t) job
 
 -- the segments of the ticks below t
 unfoldable pub segments_below : Ticks → ℕ → List Segment
@@ -29,6 +32,11 @@ segments_below log (suc t) = with_tick (segments_below log t) t (tick log t)
 -- the maximal segments of a log, in order
 abbrev pub segments_of : Ticks → List Segment
 segments_of log = segments_below log (length log)
+
+-- the segments are in order, none before tick `low` and none beyond tick `high`
+abbrev pub AreInOrder : ℕ → List Segment → ℕ → Type 0
+AreInOrder low [] high = low ≤ high
+AreInOrder low (segment ∷ segments) high = (low ≤ segment.from) × (segment.from < segment.to) × AreInOrder segment.to segments high
 
 -- the job of the first segment that has tick t
 unfoldable pub job_at : List Segment → ℕ → Option Job

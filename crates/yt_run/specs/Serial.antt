@@ -1,5 +1,5 @@
--- Serial handling: messages are handled whole, one at a time, along an order of jobs. So far for graphs of one port, which the first input feeds and whose first out the first output reads, and of no variables.
-use Rattle.std.specs.Prelude.{◌≡◌, ℕ, zero, suc, ◌+◌, ◌/◌, ◌<◌, ◌==◌, ◌&&◌, ◌||◌, nat_lt, Bool, List, [], ◌∷◌, ◌++◌, Option, Some, None, option_map, option_and_then, slice_get, slice_index_or, max, if◌then◌else◌}
+-- Serial handling: messages are handled whole, one at a time, along an order of jobs. So far for graphs of one port without variables, which the first input feeds and whose one out, which passes every job, the one output reads.
+use Rattle.std.specs.Prelude.{ℕ, suc, ◌+◌, ◌/◌, ◌==◌, ◌&&◌, ◌||◌, nat_lt, Bool, List, [], ◌∷◌, ◌++◌, Option, Some, None, option_map, option_and_then, slice_get, slice_index_or, if◌then◌else◌}
 use Rattle.std.specs.Option.{option_map_or}
 use Rattle.yt_graph.specs.declared.graph.Input.{Input}
 use Rattle.yt_graph.specs.declared.port.Feed.TheVariants.{Input as FromInput}
@@ -35,7 +35,7 @@ gap_of graph = period_of graph / greatest_sends (the_port graph) 1
 
 -- the task set of the graph
 abbrev pub task_set : GraphTree → List Task
-task_set graph = (record { cost = greatest_cost (the_port graph); period = period_of graph; resource = 0 }) ∷ []
+task_set graph = (record { cost = greatest_cost (the_port graph); period = period_of graph; resource = (the_port graph).group }) ∷ []
 
 -- the messages of an input, in order
 abbrev pub messages_of : ℕ → List Message → List Message
@@ -43,9 +43,9 @@ messages_of input [] = []
 messages_of input (message ∷ trace) = if message.input == input then message ∷ messages_of input trace else messages_of input trace
 
 -- what is sent is shown, the first at a time, each later one a gap after the one before
-abbrev pub shown : ℕ → ℕ → List SendItem → List OutLine
-shown time gap [] = []
-shown time gap (send ∷ sends) = (record { time = time; output = 1; values = send.values }) ∷ shown (time + gap) gap sends
+abbrev pub lines_shown : ℕ → ℕ → List SendItem → List OutLine
+lines_shown time gap [] = []
+lines_shown time gap (send ∷ sends) = (record { time = time; output = 1; values = send.values }) ∷ lines_shown (time + gap) gap sends
 
 -- how far serial handling has come: how many messages were handled, the jobs that handled them, and what was shown
 pub record Serial : Type 0 where
@@ -63,7 +63,7 @@ handle_message graph job message s =
     record {
       handled = suc s.handled;
       items = s.items ++ (record { job = job; arrival = message.time; cost = h.ticks }) ∷ [];
-      lines = s.lines ++ shown (message.time + period_of graph) (gap_of graph) h.sends;
+      lines = s.lines ++ lines_shown (message.time + period_of graph) (gap_of graph) h.sends;
     }
 
 -- the step of a job, which handles the next message of its port; no other job has one

@@ -1,5 +1,5 @@
 -- Logs as the list of their ticks: which job each tick went to.
-use Rattle.std.specs.Prelude.{◌≡◌, ℕ, zero, suc, ◌+◌, ◌<◌, ◌≤◌, ◌==◌, Bool, true, false, ◌&&◌, List, [], ◌∷◌, ◌++◌, Option, Some, None, is_some, length, get_or, if◌then◌else◌}
+use Rattle.std.specs.Prelude.{◌≡◌, ℕ, zero, suc, ◌+◌, ◌<◌, ◌≤◌, ◌==◌, Bool, false, List, [], ◌∷◌, ◌++◌, Option, Some, None, is_some, length, get_or, if◌then◌else◌}
 use Rattle.yt_run.specs.declared.job.Job.{Job}
 use Rattle.yt_run.specs.Tasks.{Task, Has}
 use Rattle.yt_run.specs.Plan.{Item, same_job, its_task, deadline_of}

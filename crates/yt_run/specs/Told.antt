@@ -1,9 +1,9 @@
 -- When a log and output lines tell the run of a graph on a trace, and what is promised of it.
-use Rattle.std.specs.Prelude.{◌≡◌, ℕ, ◌+◌, ◌<◌, ◌≤◌, max, List, [], ◌∷◌, Option, Some, length}
+use Rattle.std.specs.Prelude.{◌≡◌, ℕ, ◌+◌, ◌<◌, ◌≤◌, max, List, [], ◌∷◌, Some, length}
 use Rattle.yt_graph.specs.Picture.{GraphTree}
 use Rattle.yt_run.specs.declared.trace.Message.{Message}
 use Rattle.yt_run.specs.declared.told.OutLine.{OutLine}
-use Rattle.yt_run.specs.Tasks.{Task, Has}
+use Rattle.yt_run.specs.Tasks.{Has}
 use Rattle.yt_run.specs.Plan.{Item, IsLegal}
 use Rattle.yt_run.specs.Ticks.{Ticks, done, first_tick, busy_until, IsLawful, IsWorkConserving, IsExclusive, KeepsDeadlines}
 use Rattle.yt_run.specs.EdfDdm.{IsEdfDdm}

@@ -1,5 +1,6 @@
 //! What a run tells.
 
+use crate::log::Log;
 use yt_list::{Items, Vals};
 
 /// A message at an output of the graph: when it is shown, in ticks, the number of the output, from 1, and its numbers.
@@ -14,7 +15,8 @@ pub struct OutLine {
 pub type Outs = Items<OutLine>;
 
 /// The schedule of a run and what it showed.
-#[derive(Drop)]
+#[derive(Debug, Drop)]
 pub struct Told {
+    pub log: Log,
     pub outs: Outs,
 }

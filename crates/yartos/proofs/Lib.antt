@@ -1,0 +1,14 @@
+pub mod AnswerLemmas
+pub mod FirstLines
+pub mod FirstLoop
+pub mod FirstPieces
+pub mod FirstSums
+pub mod FirstTexts
+pub mod TopLemmas
+pub mod TraceLines
+pub mod TraceNumbers
+pub mod TracePeriod
+pub mod TraceSplits
+pub mod TraceTexts
+pub mod Verdicts
+pub mod Written

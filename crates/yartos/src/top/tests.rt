@@ -1,0 +1,209 @@
+use crate::{Status, yartos};
+use std::process::Abort;
+use std::test::Fail;
+use yt_io::{MemShelf, MemSink};
+
+const BLINK: &str =
+    "input tick(1) period 10\noutput led from p.a.o\nprocess p {\n  port a from tick (v) out o(1) {\n    send o (v + 1)\n  }\n}\n";
+
+const FAST: &str =
+    "input tick(1) period 4\noutput led from p.a.o\nprocess p {\n  port a from tick (v) out o(1) {\n    send o (v + 1)\n  }\n}\n";
+
+/// A shelf with a graph under `g` and a trace under `t`, the words, which read and which write fail, and what is wanted.
+#[derive(Drop)]
+struct Case {
+    words: &'static [&'static str],
+    graph: &'static str,
+    trace: &'static str,
+    failing_read: u64,
+    failing_write: (u64, usize),
+    status: Status,
+    text: &'static str,
+}
+
+const NEVER: u64 = 9;
+
+impl Case {
+    /// `run g t`, where nothing fails.
+    fn run(graph: &'static str, trace: &'static str, status: Status, text: &'static str) -> Case {
+        Case {
+            words: &["run", "g", "t"],
+            graph,
+            trace,
+            failing_read: NEVER,
+            failing_write: (NEVER, 0),
+            status,
+            text,
+        }
+    }
+}
+
+fn check(rt: &(impl Abort + AllocGlobal), case: &Case) -> Result<(), Fail> {
+    let alloc = rt.alloc();
+    let mut words = Vec::new(alloc);
+    for word in case.words {
+        words.push(String::from_str(alloc, word)?)?;
+    }
+    let mut files = Vec::new(alloc);
+    files.push((
+        String::from_str(alloc, "g")?,
+        Vec::from_slice(alloc, case.graph.as_bytes())?,
+    ))?;
+    files.push((
+        String::from_str(alloc, "t")?,
+        Vec::from_slice(alloc, case.trace.as_bytes())?,
+    ))?;
+    let mut shelf = MemShelf::with(files, vec![in alloc; case.failing_read]?);
+    let mut sink = MemSink::with_room(alloc, 200, vec![in alloc; case.failing_write]?)?;
+    let status = yartos(alloc, &words, &mut shelf, &mut sink);
+    assert_eq!(rt; sink.bytes(), case.text.as_bytes());
+    assert_eq!(rt; status, case.status);
+    Ok(())
+}
+
+#[test]
+fn runs_are_printed(rt: HostRuntime) -> Result<(), Fail> {
+    let cases = [
+        Case::run(
+            BLINK,
+            "0 tick 7\n",
+            Status::Done,
+            "run 0 5 p.a 1\nout 10 led 8\nend 10\n",
+        ),
+        Case::run(BLINK, "", Status::Done, "end 0\n"),
+        Case::run(
+            BLINK,
+            "0 tick 7\n10 tick 8\n",
+            Status::Done,
+            "run 0 5 p.a 1\nout 10 led 8\nrun 10 15 p.a 2\nout 20 led 9\nend 20\n",
+        ),
+        Case::run(
+            BLINK,
+            "3 tick 9223372036854775807\n",
+            Status::Done,
+            "run 3 8 p.a 1\nout 13 led -9223372036854775808\nend 13\n",
+        ),
+    ];
+    for case in &cases {
+        check(&rt, case)?;
+    }
+    Ok(())
+}
+
+#[test]
+fn refusals_are_told(rt: HostRuntime) -> Result<(), Fail> {
+    let cases = [
+        Case::run(
+            BLINK,
+            "0 tick 7\n9 tick 8\n",
+            Status::Trace,
+            "trace 2 soon 10\n",
+        ),
+        Case::run(
+            BLINK,
+            "10 tick 7\n9 tick 8\n",
+            Status::Trace,
+            "trace 2 order\n",
+        ),
+        Case::run(
+            FAST,
+            "0 tick 7\n",
+            Status::Overload,
+            "overload load 5/4\narrive p.a 0 4 1 5\nhorizon 4\n",
+        ),
+        Case::run(
+            FAST,
+            "no trace",
+            Status::Overload,
+            "overload load 5/4\narrive p.a 0 4 1 5\nhorizon 4\n",
+        ),
+        Case::run("resource r\n", "0 tick 7\n", Status::NotYet, "notyet\n"),
+        Case::run(BLINK, "0 tick 07\n", Status::NotYet, "notyet\n"),
+        Case {
+            words: &["run", "g", "-t"],
+            ..Case::run(BLINK, "", Status::NotYet, "notyet\n")
+        },
+        Case {
+            words: &[],
+            ..Case::run(BLINK, "", Status::NotYet, "notyet\n")
+        },
+    ];
+    for case in &cases {
+        check(&rt, case)?;
+    }
+    Ok(())
+}
+
+#[test]
+fn faults_are_told(rt: HostRuntime) -> Result<(), Fail> {
+    let cases = [
+        Case {
+            failing_write: (2, 3),
+            ..Case::run(
+                BLINK,
+                "0 tick 7\n",
+                Status::WriteFault,
+                "run 0 5 p.a 1\nout",
+            )
+        },
+        Case {
+            failing_read: 2,
+            ..Case::run(BLINK, "0 tick 7\n", Status::ReadFault, "")
+        },
+        Case {
+            failing_read: 1,
+            ..Case::run(BLINK, "0 tick 7\n", Status::ReadFault, "")
+        },
+        Case {
+            words: &["run", "g", "u"],
+            ..Case::run(BLINK, "0 tick 7\n", Status::ReadFault, "")
+        },
+        Case {
+            words: &["run", "u", "t"],
+            ..Case::run(BLINK, "0 tick 7\n", Status::ReadFault, "")
+        },
+        Case {
+            words: &["check", "g"],
+            failing_write: (1, 6),
+            ..Case::run(BLINK, "", Status::WriteFault, "notyet")
+        },
+    ];
+    for case in &cases {
+        check(&rt, case)?;
+    }
+    Ok(())
+}
+
+#[test]
+fn long_files_are_told(rt: HostRuntime) -> Result<(), Fail> {
+    let alloc = rt.alloc();
+    let mut words = Vec::new(alloc);
+    for word in ["run", "g", "t"] {
+        words.push(String::from_str(alloc, word)?)?;
+    }
+    for (graph, trace, status, text) in [
+        (16_777_217, 0, Status::Long, b"long file 1\n".as_slice()),
+        (
+            16_777_216,
+            16_777_217,
+            Status::Long,
+            b"long file 2\n".as_slice(),
+        ),
+        (
+            16_777_216,
+            16_777_216,
+            Status::NotYet,
+            b"notyet\n".as_slice(),
+        ),
+    ] {
+        let mut files = Vec::new(alloc);
+        files.push((String::from_str(alloc, "g")?, vec![in alloc; b' '; graph]?))?;
+        files.push((String::from_str(alloc, "t")?, vec![in alloc; b' '; trace]?))?;
+        let mut shelf = MemShelf::with(files, Vec::new(alloc));
+        let mut sink = MemSink::with_room(alloc, 100, Vec::new(alloc))?;
+        let ended = yartos(alloc, &words, &mut shelf, &mut sink);
+        assert_eq!(rt; ended, status);
+        assert_eq!(rt; sink.bytes(), text);
+    }
+    Ok(())
+}
