@@ -1,0 +1,224 @@
+//! What stands at the front of a text.
+ghost use Rattle.std.specs.Prelude.{◌≡◌, ◌≤◌, ◌<◌, ◌+◌, ◌^◌, length, IfOk};
+ghost use Rattle.std.specs.List.{prefix_len};
+ghost use Rattle.yt_lexer.specs.Places.{next_place, place_after};
+ghost use Rattle.yt_lexer.specs.First.{is_blank, is_in_comment, blank_len, is_letter, is_digit, is_word_byte, is_reserved, takes_equals, is_symbol, symbol_len, word_token, number_token, symbol_token, first_token};
+
+use crate::token::{LexFault, TokenKind};
+use yt_base::signed;
+use yt_graph::Place;
+
+/// The words that name nothing.
+const RESERVED: [&[u8]; 27] = [
+    b"input",
+    b"output",
+    b"resource",
+    b"process",
+    b"in",
+    b"var",
+    b"port",
+    b"from",
+    b"out",
+    b"every",
+    b"period",
+    b"let",
+    b"send",
+    b"if",
+    b"else",
+    b"repeat",
+    b"max",
+    b"and",
+    b"or",
+    b"not",
+    b"burst",
+    b"within",
+    b"native",
+    b"cost",
+    b"node",
+    b"link",
+    b"delay",
+];
+
+/// How many bytes a word has at most.
+const WORD_ROOM: usize = 32;
+
+/// The place behind bytes that begin at a place.
+pub(crate) fn place_behind(place: Place, bytes: &[u8]) -> Place
+    requires line { place.line + length bytes.now < 2 ^ 32 }
+    requires col { place.col + length bytes.now < 2 ^ 32 }
+    ensures { result ≡ place_after place bytes.now }
+{
+    let mut here = place;
+    for b in bytes {
+        here = next_place(here, *b);
+    }
+    here
+}
+
+/// The place behind one byte.
+fn next_place(place: Place, b: u8) -> Place
+    requires line { place.line + 1 < 2 ^ 32 }
+    requires col { place.col + 1 < 2 ^ 32 }
+    ensures { result ≡ next_place place b }
+{
+    if b == b'\n' {
+        return Place {
+            line: place.line + 1,
+            col: 1,
+        };
+    }
+    Place {
+        line: place.line,
+        col: place.col + 1,
+    }
+}
+
+/// How many bytes of white space and comments stand in front.
+pub(crate) fn blank_len(text: &[u8]) -> usize
+    ensures value { result ≡ blank_len text.now }
+    ensures bound { result ≤ length text.now }
+{
+    let mut comment = false;
+    let mut n = 0;
+    while n < text.len() && is_blank(comment, text[n]) {
+        comment = is_in_comment(comment, text[n]);
+        n += 1;
+    }
+    n
+}
+
+/// Whether a byte is white space or of a comment, which may have begun before.
+fn is_blank(comment: bool, b: u8) -> bool
+    ensures { result ≡ is_blank comment b }
+{
+    comment || matches!(b, b' ' | b'\t' | b'\r' | b'\n' | b'#')
+}
+
+/// Whether a comment goes on behind a byte.
+fn is_in_comment(comment: bool, b: u8) -> bool
+    ensures { result ≡ is_in_comment comment b }
+{
+    b != b'\n' && (comment || b == b'#')
+}
+
+/// The token at the front with its number of bytes, or the fault there.
+#[tactic(auto, unfolding(crate::specs::First::first_token))]
+pub(crate) fn first_token(place: Place, text: &[u8]) -> Result<(TokenKind, usize), LexFault>
+    ensures value { result ≡ first_token place text.now }
+    ensures len { IfOk result (λ r. (0 < r.1) × (r.1 ≤ length text.now)) }
+{
+    match text {
+        [] => Err(LexFault::BadByte(place)),
+        [b, ..] if is_letter(*b) => word_token(place, &text[..word_len(text)]),
+        [b, ..] if is_digit(*b) => number_token(place, &text[..digit_len(text)]),
+        _ => symbol_token(place, symbol_len(text)),
+    }
+}
+
+/// What a word is.
+#[tactic(auto, unfolding(crate::specs::First::word_token))]
+fn word_token(place: Place, word: &[u8]) -> Result<(TokenKind, usize), LexFault>
+    ensures value { result ≡ word_token place word.now }
+    ensures len { IfOk result (λ r. r.1 ≡ length word.now) }
+{
+    if word.len() > WORD_ROOM {
+        return Err(LexFault::LongName(place));
+    }
+    if is_reserved(word) {
+        return Ok((TokenKind::Key, word.len()));
+    }
+    Ok((TokenKind::Word, word.len()))
+}
+
+/// What digits are.
+#[tactic(auto, unfolding(crate::specs::First::number_token))]
+fn number_token(place: Place, digits: &[u8]) -> Result<(TokenKind, usize), LexFault>
+    ensures value { result ≡ number_token place digits.now }
+    ensures len { IfOk result (λ r. r.1 ≡ length digits.now) }
+{
+    match signed(digits) {
+        Some(n) => Ok((TokenKind::Number(n), digits.len())),
+        None => Err(LexFault::BigNumber(place)),
+    }
+}
+
+/// The symbol of so many bytes; none where there are none.
+fn symbol_token(place: Place, len: usize) -> Result<(TokenKind, usize), LexFault>
+    ensures value { result ≡ symbol_token place len }
+    ensures len { IfOk result (λ r. (0 < r.1) × (r.1 ≡ len)) }
+{
+    if len == 0 {
+        return Err(LexFault::BadByte(place));
+    }
+    Ok((TokenKind::Symbol, len))
+}
+
+/// How many letters, digits and `_` stand in front.
+fn word_len(text: &[u8]) -> usize
+    ensures value { result ≡ prefix_len is_word_byte text.now }
+    ensures bound { result ≤ length text.now }
+{
+    text.iter().take_while(|b| is_word_byte(**b)).count()
+}
+
+/// How many digits stand in front.
+fn digit_len(text: &[u8]) -> usize
+    ensures value { result ≡ prefix_len is_digit text.now }
+    ensures bound { result ≤ length text.now }
+{
+    text.iter().take_while(|b| is_digit(**b)).count()
+}
+
+/// How many bytes the longest symbol in front has; 0 where there is none.
+fn symbol_len(text: &[u8]) -> usize
+    ensures value { result ≡ symbol_len text.now }
+    ensures bound { result ≤ length text.now }
+{
+    match text {
+        [b, b'=', ..] if takes_equals(*b) => 2,
+        [b, ..] if is_symbol(*b) => 1,
+        _ => 0,
+    }
+}
+
+/// Whether a byte with `=` behind it is a symbol.
+fn takes_equals(b: u8) -> bool
+    ensures { result ≡ takes_equals b }
+{
+    matches!(b, b'<' | b'>' | b'=' | b'!')
+}
+
+/// Whether a byte is a symbol by itself.
+fn is_symbol(b: u8) -> bool
+    ensures { result ≡ is_symbol b }
+{
+    matches!(b, b'('..=b'/' | b'<'..=b'>' | b'%' | b'{' | b'}')
+}
+
+/// Whether a byte is a letter, a digit or `_`.
+fn is_word_byte(b: u8) -> bool
+    ensures { result ≡ is_word_byte b }
+{
+    is_letter(b) || is_digit(b)
+}
+
+/// Whether a byte is a letter or `_`.
+fn is_letter(b: u8) -> bool
+    ensures { result ≡ is_letter b }
+{
+    b.is_ascii_alphabetic() || b == b'_'
+}
+
+/// Whether a byte is a decimal digit.
+fn is_digit(b: u8) -> bool
+    ensures { result ≡ is_digit b }
+{
+    b.is_ascii_digit()
+}
+
+/// Whether a word is reserved, so that it names nothing.
+fn is_reserved(word: &[u8]) -> bool
+    ensures { result ≡ is_reserved word.now }
+{
+    RESERVED.iter().any(|reserved| *reserved == word)
+}
