@@ -1,8 +1,7 @@
-//! What stands at the front of a text.
-ghost use Rattle.std.specs.Prelude.{◌≡◌, ◌≤◌, ◌<◌, ◌+◌, ◌^◌, length, IfOk};
+//! The token at the front of a text.
+ghost use Rattle.std.specs.Prelude.{◌≡◌, ◌≤◌, ◌<◌, length, IfOk};
 ghost use Rattle.std.specs.List.{prefix_len};
-ghost use Rattle.yt_lexer.specs.Places.{next_place, place_after};
-ghost use Rattle.yt_lexer.specs.First.{is_blank, is_in_comment, blank_len, is_letter, is_digit, is_word_byte, is_reserved, takes_equals, is_symbol, symbol_len, word_token, number_token, symbol_token, first_token};
+ghost use Rattle.yt_lexer.specs.First.{is_letter, is_digit, is_word_byte, is_reserved, takes_equals, is_symbol, symbol_len, word_token, number_token, symbol_token, first_token};
 
 use crate::token::{LexFault, TokenKind};
 use yt_base::signed;
@@ -41,65 +40,6 @@ const RESERVED: [&[u8]; 27] = [
 
 /// How many bytes a word has at most.
 const WORD_ROOM: usize = 32;
-
-/// The place behind bytes that begin at a place.
-pub(crate) fn place_behind(place: Place, bytes: &[u8]) -> Place
-    requires line { place.line + length bytes.now < 2 ^ 32 }
-    requires col { place.col + length bytes.now < 2 ^ 32 }
-    ensures { result ≡ place_after place bytes.now }
-{
-    let mut here = place;
-    for b in bytes {
-        here = next_place(here, *b);
-    }
-    here
-}
-
-/// The place behind one byte.
-fn next_place(place: Place, b: u8) -> Place
-    requires line { place.line + 1 < 2 ^ 32 }
-    requires col { place.col + 1 < 2 ^ 32 }
-    ensures { result ≡ next_place place b }
-{
-    if b == b'\n' {
-        return Place {
-            line: place.line + 1,
-            col: 1,
-        };
-    }
-    Place {
-        line: place.line,
-        col: place.col + 1,
-    }
-}
-
-/// How many bytes of white space and comments stand in front.
-pub(crate) fn blank_len(text: &[u8]) -> usize
-    ensures value { result ≡ blank_len text.now }
-    ensures bound { result ≤ length text.now }
-{
-    let mut comment = false;
-    let mut n = 0;
-    while n < text.len() && is_blank(comment, text[n]) {
-        comment = is_in_comment(comment, text[n]);
-        n += 1;
-    }
-    n
-}
-
-/// Whether a byte is white space or of a comment, which may have begun before.
-fn is_blank(comment: bool, b: u8) -> bool
-    ensures { result ≡ is_blank comment b }
-{
-    comment || matches!(b, b' ' | b'\t' | b'\r' | b'\n' | b'#')
-}
-
-/// Whether a comment goes on behind a byte.
-fn is_in_comment(comment: bool, b: u8) -> bool
-    ensures { result ≡ is_in_comment comment b }
-{
-    b != b'\n' && (comment || b == b'#')
-}
 
 /// The token at the front with its number of bytes, or the fault there.
 #[tactic(auto, unfolding(crate::specs::First::first_token))]

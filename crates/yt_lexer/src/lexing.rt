@@ -5,7 +5,9 @@ ghost use Rattle.yt_lexer.specs.declared.token.LexFault.{LexFault};
 ghost use Rattle.yt_lexer.specs.Places.{IsSpot};
 ghost use Rattle.yt_lexer.specs.Lexes.{IsTokenAt, IsFaultAt, Lexes, IsFirstFault, Gives};
 
-use crate::first::{blank_len, first_token, place_behind};
+use crate::blanks::blank_len;
+use crate::first::first_token;
+use crate::places::place_behind;
 use crate::token::{LexFault, Token, Tokens};
 use std::alloc::Global;
 use yt_graph::Place;

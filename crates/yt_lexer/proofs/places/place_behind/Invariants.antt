@@ -1,6 +1,6 @@
 use Rattle.std.proofs.Common.{◌≡◌, ◌+◌, ◌<◌, ◌^◌, drop, length}
 use Rattle.yt_lexer.specs.Places.{place_after}
-use Rattle.yt_lexer.proofs.first.place_behind.Given as goal
+use Rattle.yt_lexer.proofs.places.place_behind.Given as goal
 
 -- the bytes that are left lead to the same place
 abbrev pub invariant-loop-b : goal.invariant-loop-b

@@ -1,6 +1,6 @@
 use Rattle.std.proofs.Common.{◌≡◌, ◌+◌, ◌-◌, ◌≤◌, drop, length}
 use Rattle.yt_lexer.specs.First.{blank_len, blank_len_in}
-use Rattle.yt_lexer.proofs.first.blank_len.Given as goal
+use Rattle.yt_lexer.proofs.blanks.blank_len.Given as goal
 
 -- the bytes so far, and then the blank ones that are left
 abbrev pub invariant-loop-n : goal.invariant-loop-n
