@@ -9,10 +9,11 @@ use Rattle.yt_lexer.specs.declared.token.TokenKind.{TokenKind}
 use Rattle.yt_lexer.specs.declared.token.LexFault.{LexFault}
 use Rattle.yt_lexer.specs.declared.token.LexFault.TheVariants.{BadByte, LongName, BigNumber, Memory}
 
--- the token at a byte, or the fault there, in one word
+-- what is read at the byte where a token begins
 read_token : (text : List ℕ) (at : ℕ) (t : Token) (h : IsTokenAt text at t) → first_token (place_of text at) (drop at text) ≡ Ok (t.kind, h.len)
 read_token text at t h = rw (← h.begins, ← h.placed) h.read
 
+-- one reading gives one kind and one length
 same_read : (r : Result (TokenKind × ℕ) LexFault) (a b : TokenKind) (m n : ℕ) → r ≡ Ok (a, m) → r ≡ Ok (b, n) → (a ≡ b) × (m ≡ n)
 same_read r a b m n h k =
     let both : (a, m) ≡ (b, n) = cc in
@@ -32,9 +33,11 @@ one_token text at t u h k =
     let place : t.place ≡ u.place = cc in
     same_parts t.kind u.kind t.from u.from t.to u.to t.place u.place read.0 from to place
 
+-- no fault stands where a token begins
 no_fault : (text : List ℕ) (at : ℕ) (t : Token) (fault : LexFault) → IsTokenAt text at t → IsFaultAt text at fault → {A : Type 0} → A
 no_fault text at t fault h k = let a = read_token text at t h in absurd cc
 
+-- nothing but one end comes behind the tokens
 one_end : (text : List ℕ) (at : ℕ) (e d : Option LexFault) → EndsIn text at e → EndsIn text at d → e ≡ d
 one_end text at None None h k = refl
 one_end text at None (Some g) h k = absurd (omega (arith, k.more))
