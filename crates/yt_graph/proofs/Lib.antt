@@ -1,3 +1,4 @@
+pub mod AstPictures
 mod Examples
 pub mod Lengths
 pub mod Pictures

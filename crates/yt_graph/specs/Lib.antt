@@ -1,4 +1,9 @@
+pub mod AstPicture
+pub mod AstWellFormed
+pub mod AstParts
 pub mod Picture
+pub mod WellFormed
 pub mod Parts
 pub mod Meaning
 pub mod Cost
+pub mod Reserved

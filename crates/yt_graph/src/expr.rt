@@ -1,5 +1,8 @@
 //! Expressions.
 
+ghost use Rattle.std.specs.Prelude.{◌≡◌};
+ghost use Rattle.yt_graph.specs.Picture.{call, expr_tree, exprs_tree};
+
 /// An operator between two numbers.
 #[derive(Clone, Copy, Debug, PartialEq, Eq)]
 pub enum Op2 {
@@ -61,3 +64,15 @@ pub enum Expr {
 
 /// Expressions in order.
 pub type Exprs = Vec<Expr>;
+
+/// A call of an operator: its number, from 1, its head's code and ticks, and the arguments.
+pub fn expr_call(op: u32, code: u32, ticks: u32, args: Exprs) -> Expr
+    ensures { expr_tree result ≡ call op code ticks (exprs_tree args.items) }
+{
+    Expr::Call {
+        op,
+        code,
+        ticks,
+        args,
+    }
+}
