@@ -1,3 +1,3 @@
 mod Examples
-mod LexesLemmas
+pub mod LexesLemmas
 mod PlaceLemmas

@@ -1,9 +1,10 @@
 -- What stands at the front of a text: white space and comments, and a token.
-use Rattle.std.specs.Prelude.{ℕ, ◌+◌, ◌==◌, ◌&&◌, ◌||◌, not, nat_le, nat_lt, Bool, false, List, [], ◌∷◌, length, take, bytes_eq, codes, if◌then◌else◌, Option, None, Some, Result, Ok, Err, ℤ}
-use Rattle.std.specs.List.{list_any, prefix_len}
+use Rattle.std.specs.Prelude.{ℕ, ◌+◌, ◌==◌, ◌&&◌, ◌||◌, not, nat_le, nat_lt, Bool, false, List, [], ◌∷◌, length, take, if◌then◌else◌, Option, None, Some, Result, Ok, Err, ℤ}
+use Rattle.std.specs.List.{prefix_len}
 use Rattle.yt_base.specs.Digits.{signed_of_text}
 use Rattle.yt_base.specs.Lines.{is_feed}
 use Rattle.yt_graph.specs.declared.place.Place.{Place}
+pub use Rattle.yt_graph.specs.Reserved.{reserved_words, is_reserved}
 use Rattle.yt_lexer.specs.declared.token.TokenKind.{TokenKind}
 use Rattle.yt_lexer.specs.declared.token.TokenKind.TheVariants.{Word, Key, Number, Symbol}
 use Rattle.yt_lexer.specs.declared.token.LexFault.{LexFault}
@@ -40,15 +41,10 @@ is_digit c = nat_le 48 c && nat_le c 57
 abbrev pub is_word_byte : ℕ → Bool
 is_word_byte c = is_letter c || is_digit c
 
--- words that name nothing
-abbrev pub reserved_words : List (List ℕ)
-reserved_words =
-    codes "input" ∷ codes "output" ∷ codes "resource" ∷ codes "process" ∷ codes "in" ∷ codes "var" ∷ codes "port" ∷ codes "from" ∷ codes "out" ∷
-    codes "every" ∷ codes "period" ∷ codes "let" ∷ codes "send" ∷ codes "if" ∷ codes "else" ∷ codes "repeat" ∷ codes "max" ∷ codes "and" ∷ codes "or" ∷ codes "not" ∷
-    codes "burst" ∷ codes "within" ∷ codes "native" ∷ codes "cost" ∷ codes "node" ∷ codes "link" ∷ codes "delay" ∷ []
-
-abbrev pub is_reserved : List ℕ → Bool
-is_reserved word = list_any (λ r. bytes_eq r word) reserved_words
+-- a word that names something: at most 32 letters, digits and `_`, no digit first, and not reserved
+abbrev pub is_name : List ℕ → Bool
+is_name [] = false
+is_name (b ∷ bs) = is_letter b && ((prefix_len is_word_byte (b ∷ bs) == length (b ∷ bs)) && (nat_le (length (b ∷ bs)) 32 && not (is_reserved (b ∷ bs))))
 
 -- `<=`, `>=`, `==` and `!=` are these bytes with `=` behind them
 abbrev pub takes_equals : ℕ → Bool

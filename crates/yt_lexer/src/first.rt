@@ -1,42 +1,11 @@
 //! The token at the front of a text.
 ghost use Rattle.std.specs.Prelude.{◌≡◌, ◌≤◌, ◌<◌, length, IfOk};
 ghost use Rattle.std.specs.List.{prefix_len};
-ghost use Rattle.yt_lexer.specs.First.{is_letter, is_digit, is_word_byte, is_reserved, takes_equals, is_symbol, symbol_len, word_token, number_token, symbol_token, first_token};
+ghost use Rattle.yt_lexer.specs.First.{is_letter, is_digit, is_word_byte, is_name, takes_equals, is_symbol, symbol_len, word_token, number_token, symbol_token, first_token};
 
 use crate::token::{LexFault, TokenKind};
 use yt_base::signed;
-use yt_graph::Place;
-
-/// The words that name nothing.
-const RESERVED: [&[u8]; 27] = [
-    b"input",
-    b"output",
-    b"resource",
-    b"process",
-    b"in",
-    b"var",
-    b"port",
-    b"from",
-    b"out",
-    b"every",
-    b"period",
-    b"let",
-    b"send",
-    b"if",
-    b"else",
-    b"repeat",
-    b"max",
-    b"and",
-    b"or",
-    b"not",
-    b"burst",
-    b"within",
-    b"native",
-    b"cost",
-    b"node",
-    b"link",
-    b"delay",
-];
+use yt_graph::{Place, reserved};
 
 /// How many bytes a word has at most.
 const WORD_ROOM: usize = 32;
@@ -64,7 +33,7 @@ fn word_token(place: Place, word: &[u8]) -> Result<(TokenKind, usize), LexFault>
     if word.len() > WORD_ROOM {
         return Err(LexFault::LongName(place));
     }
-    if is_reserved(word) {
+    if reserved(word) {
         return Ok((TokenKind::Key, word.len()));
     }
     Ok((TokenKind::Word, word.len()))
@@ -156,9 +125,15 @@ fn is_digit(b: u8) -> bool
     b.is_ascii_digit()
 }
 
-/// Whether a word is reserved, so that it names nothing.
-fn is_reserved(word: &[u8]) -> bool
-    ensures { result ≡ is_reserved word.now }
+/// Whether a word names something: at most 32 letters, digits and `_`, no digit first, and not reserved.
+pub fn is_name(word: &[u8]) -> bool
+    ensures { result ≡ is_name word.now }
 {
-    RESERVED.iter().any(|reserved| *reserved == word)
+    match word {
+        [] => false,
+        [b, ..] => is_letter(*b)
+            && word_len(word) == word.len()
+            && word.len() <= WORD_ROOM
+            && !reserved(word),
+    }
 }
