@@ -1,0 +1,3 @@
+pub mod parsing
+pub mod reading
+pub mod printing

@@ -1,0 +1,12 @@
+pub mod Marks
+pub mod Lexed
+pub mod Layouts
+pub mod Texts
+pub mod Depths
+pub mod Spelled
+pub mod Written
+pub mod Good
+pub mod Reread
+pub mod RereadGraph
+pub mod Law
+pub mod Examples
