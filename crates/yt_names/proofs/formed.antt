@@ -1,0 +1,9 @@
+pub mod Chains
+pub mod Facts
+pub mod Feeds
+pub mod Graph
+pub mod Groups
+pub mod Lists
+pub mod Names
+pub mod NoVars
+pub mod Places

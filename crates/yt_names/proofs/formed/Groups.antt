@@ -1,0 +1,144 @@
+-- The resources of ports.
+use Rattle.std.proofs.Common.{◌≡◌, ℕ, ◌+◌, ◌≤◌, List, [], ◌∷◌, ◌++◌, length, Bool, true, false, ◌||◌, cond, Option, Some, None, true≢false, bytes_eq, refl, sym, ap, ◌∙◌, subst, if◌then◌else◌}
+use Rattle.std.specs.List.{list_any, flat_map}
+use Rattle.yt_graph.specs.declared.ast.Word.{Word}
+use Rattle.yt_graph.specs.declared.ast.VarDecl.{VarDecl}
+use Rattle.yt_graph.specs.declared.operator.OpHead.{OpHead}
+use Rattle.yt_graph.specs.AstPicture.{PortDeclTree, ItemTree, input, output, resource, process}
+use Rattle.yt_graph.specs.Picture.{PortTree, GraphTree}
+use Rattle.yt_graph.specs.WellFormed.{IsWithin, AreDifferent, IsFineGroup, IsUnderOne, block_uses_var}
+use Rattle.yt_names.specs.Faults.{inside_faults}
+use Rattle.yt_names.specs.Resolved.{number_among, resources_of, own_resource, own_resources_of, resolved_groups, resource_name, vars_of, resolved_port, resolved_ports_of, resolved_ports}
+use Rattle.yt_names.proofs.formed.Lists.{Each, each_append, each_map, each_mapped, each_of, none_each, same_bytes, bytes_turned, or_true, or_first}
+use Rattle.yt_names.proofs.formed.Places.{number_within}
+use Rattle.yt_names.proofs.formed.Facts.{IsGoodItem}
+use Rattle.yt_names.proofs.formed.Feeds.{inside_there}
+use Rattle.yt_names.proofs.formed.Names.{process_name}
+
+-- a name that is in a part of a list
+any_left : (t : List ℕ → Bool) (xs ys : List (List ℕ)) → list_any t xs ≡ true → list_any t (xs ++ ys) ≡ true
+any_left t [] ys e = absurd (true≢false (sym e))
+any_left t (x ∷ xs) ys e = by (t x) e (any_left t xs ys)
+  where
+    by : (b : Bool) → (b || list_any t xs) ≡ true → (list_any t xs ≡ true → list_any t (xs ++ ys) ≡ true) → (b || list_any t (xs ++ ys)) ≡ true
+    by true h r = refl
+    by false h r = r h
+
+any_right : (t : List ℕ → Bool) (xs ys : List (List ℕ)) → list_any t ys ≡ true → list_any t (xs ++ ys) ≡ true
+any_right t [] ys e = e
+any_right t (x ∷ xs) ys e = or_true (t x) (list_any t (xs ++ ys)) (any_right t xs ys e)
+
+-- a process that has variables has a resource that is there
+abbrev pub IsKeyed : List (List ℕ) → ItemTree → Type 0
+IsKeyed groups (input w width period) = Unit {0}
+IsKeyed groups (output w path) = Unit {0}
+IsKeyed groups (resource w) = Unit {0}
+IsKeyed groups (process w inside vars ports) = (vars ≡ [] → ⊥) → list_any (bytes_eq (resource_name w inside)) groups ≡ true
+
+-- by the word behind `in`, or by its own name
+keyed : (all : List ItemTree) (w : Word) (inside : Option Word) (vars : List VarDecl) (rest : List (List ℕ)) → inside_faults all inside ≡ []
+    → ((y : List ℕ) → list_any (bytes_eq y) (own_resource w inside vars ++ rest) ≡ true → list_any (bytes_eq y) (flat_map own_resources_of all) ≡ true)
+    → (vars ≡ [] → ⊥) → list_any (bytes_eq (resource_name w inside)) (resolved_groups all) ≡ true
+keyed all w (Some r) vars rest e own some = any_left (bytes_eq r.text) (flat_map resources_of all) (flat_map own_resources_of all) (inside_there all r e)
+keyed all w None [] rest e own some = absurd (some refl)
+keyed all w None (v ∷ vs) rest e own some =
+    any_right (bytes_eq w.text) (flat_map resources_of all) (flat_map own_resources_of all) (own w.text (or_first (bytes_eq w.text w.text) (list_any (bytes_eq w.text) rest) (same_bytes w.text)))
+
+pub all_keyed : (all : List ItemTree) (ops : List OpHead) (items : List ItemTree) → ((y : List ℕ) → list_any (bytes_eq y) (flat_map own_resources_of items) ≡ true → list_any (bytes_eq y) (flat_map own_resources_of all) ≡ true)
+    → Each (IsGoodItem all ops) items → Each (IsKeyed (resolved_groups all)) items
+all_keyed all ops [] own h = tt
+all_keyed all ops (input w width period ∷ rest) own h = (tt, all_keyed all ops rest own h.1)
+all_keyed all ops (output w path ∷ rest) own h = (tt, all_keyed all ops rest own h.1)
+all_keyed all ops (resource w ∷ rest) own h = (tt, all_keyed all ops rest own h.1)
+all_keyed all ops (process w inside vars ports ∷ rest) own h = (
+  keyed all w inside vars (flat_map own_resources_of rest) h.0.0 own,
+  all_keyed all ops rest (λ y e. own y (any_right (bytes_eq y) (own_resource w inside vars) (flat_map own_resources_of rest) e)) h.1,
+)
+
+-- a port's resource is there
+pub group_fine : (g : GraphTree) (p : PortTree) (key : List ℕ) (b : Bool) → p.group ≡ (if b then number_among key g.groups else 0) → (b ≡ true → list_any (bytes_eq key) g.groups ≡ true) → length g.groups ≤ 96 → IsFineGroup g p b
+group_fine g p key true e there few = subst (IsWithin 1 (length g.groups)) (sym e) (number_within key g.groups (there refl) few)
+group_fine g p key false e there few = e
+
+-- the resource of the process of a name
+abbrev pub key_by : List ℕ → List ItemTree → List ℕ
+key_by word [] = []
+key_by word (input w width period ∷ rest) = key_by word rest
+key_by word (output w path ∷ rest) = key_by word rest
+key_by word (resource w ∷ rest) = key_by word rest
+key_by word (process w inside vars ports ∷ rest) = cond (bytes_eq word w.text) (resource_name w inside) (key_by word rest)
+
+-- a process is the first of its name
+abbrev IsKeyBy : List ItemTree → ItemTree → Type 0
+IsKeyBy all (input w width period) = Unit {0}
+IsKeyBy all (output w path) = Unit {0}
+IsKeyBy all (resource w) = Unit {0}
+IsKeyBy all (process w inside vars ports) = key_by w.text all ≡ resource_name w inside
+
+behind : (w : Word) (inside : Option Word) (vars : List VarDecl) (ports : List PortDeclTree) (rest items : List ItemTree)
+    → Each (λ y. bytes_eq w.text y ≡ false) (flat_map process_name items) → Each (IsKeyBy rest) items → Each (IsKeyBy (process w inside vars ports ∷ rest)) items
+behind w inside vars ports rest [] n h = tt
+behind w inside vars ports rest (input x width period ∷ more) n h = (tt, behind w inside vars ports rest more n h.1)
+behind w inside vars ports rest (output x path ∷ more) n h = (tt, behind w inside vars ports rest more n h.1)
+behind w inside vars ports rest (resource x ∷ more) n h = (tt, behind w inside vars ports rest more n h.1)
+behind w inside vars ports rest (process x i vs ps ∷ more) n h =
+    (ap (λ b. cond b (resource_name w inside) (key_by x.text rest)) (bytes_turned w.text x.text n.0) ∙ h.0, behind w inside vars ports rest more n.1 h.1)
+
+key_found : (items : List ItemTree) → AreDifferent (flat_map process_name items) → Each (IsKeyBy items) items
+key_found [] d = tt
+key_found (input w width period ∷ rest) d = (tt, each_map (IsKeyBy rest) (IsKeyBy (input w width period ∷ rest)) (same rest) rest (key_found rest d))
+  where
+    same : (all : List ItemTree) (i : ItemTree) → IsKeyBy all i → IsKeyBy (input w width period ∷ all) i
+    same all (input x a b) h = tt
+    same all (output x a) h = tt
+    same all (resource x) h = tt
+    same all (process x a b c) h = h
+key_found (output w path ∷ rest) d = (tt, each_map (IsKeyBy rest) (IsKeyBy (output w path ∷ rest)) (same rest) rest (key_found rest d))
+  where
+    same : (all : List ItemTree) (i : ItemTree) → IsKeyBy all i → IsKeyBy (output w path ∷ all) i
+    same all (input x a b) h = tt
+    same all (output x a) h = tt
+    same all (resource x) h = tt
+    same all (process x a b c) h = h
+key_found (resource w ∷ rest) d = (tt, each_map (IsKeyBy rest) (IsKeyBy (resource w ∷ rest)) (same rest) rest (key_found rest d))
+  where
+    same : (all : List ItemTree) (i : ItemTree) → IsKeyBy all i → IsKeyBy (resource w ∷ all) i
+    same all (input x a b) h = tt
+    same all (output x a) h = tt
+    same all (resource x) h = tt
+    same all (process x a b c) h = h
+key_found (process w inside vars ports ∷ rest) d = (
+  ap (λ b. cond b (resource_name w inside) (key_by w.text rest)) (same_bytes w.text),
+  behind w inside vars ports rest rest (none_each (bytes_eq w.text) (flat_map process_name rest) d.0) (key_found rest d.1),
+)
+
+-- a port's resource is that of its process's name
+abbrev pub IsGrouped : List ItemTree → List (List ℕ) → PortTree → Type 0
+IsGrouped all groups p = p.group ≡ (if block_uses_var p.body then number_among (key_by p.process all) groups else 0)
+
+grouped : (all : List ItemTree) (ops : List OpHead) (first : ℕ) (items : List ItemTree) → Each (IsKeyBy all) items → Each (IsGrouped all (resolved_groups all)) (resolved_ports all ops first items)
+grouped all ops first [] h = tt
+grouped all ops first (input w width period ∷ rest) h = grouped all ops (first + 0) rest h.1
+grouped all ops first (output w path ∷ rest) h = grouped all ops (first + 0) rest h.1
+grouped all ops first (resource w ∷ rest) h = grouped all ops (first + 0) rest h.1
+grouped all ops first (process w inside vars ports ∷ rest) h =
+    each_append _ (resolved_ports_of all ops first (process w inside vars ports)) (resolved_ports all ops (first + length (vars_of (process w inside vars ports))) rest)
+    (each_mapped (IsGrouped all (resolved_groups all)) (resolved_port all w.text (resource_name w inside) ops vars first) ports (each_of _ (one) ports))
+    (grouped all ops (first + length (vars_of (process w inside vars ports))) rest h.1)
+  where
+    one : (p : PortDeclTree) → IsGrouped all (resolved_groups all) (resolved_port all w.text (resource_name w inside) ops vars first p)
+    one p = ap (λ k. if block_uses_var (resolved_port all w.text (resource_name w inside) ops vars first p).body then number_among k (resolved_groups all) else 0) (sym h.0)
+
+under_one : (all : List ItemTree) (groups : List (List ℕ)) (p q : PortTree) → IsGrouped all groups p → IsGrouped all groups q → IsUnderOne p q
+under_one all groups p q a b same u v =
+    a ∙ ap (λ x. if x then number_among (key_by p.process all) groups else 0) u
+    ∙ ap (λ n. number_among (key_by n all) groups) same
+    ∙ sym (b ∙ ap (λ x. if x then number_among (key_by q.process all) groups else 0) v)
+
+-- the ports of one process are under one resource
+pub all_under_one : (all : List ItemTree) (ops : List OpHead) → AreDifferent (flat_map process_name all) → Each (λ p. Each (IsUnderOne p) (resolved_ports all ops 0 all)) (resolved_ports all ops 0 all)
+all_under_one all ops d =
+    let h = grouped all ops 0 all (key_found all d) in
+    each_map (IsGrouped all (resolved_groups all)) (λ p. Each (IsUnderOne p) (resolved_ports all ops 0 all))
+    (λ p a. each_map (IsGrouped all (resolved_groups all)) (IsUnderOne p) (λ q b. under_one all (resolved_groups all) p q a b) (resolved_ports all ops 0 all) h)
+    (resolved_ports all ops 0 all) h

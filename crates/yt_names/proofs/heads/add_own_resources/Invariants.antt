@@ -1,0 +1,8 @@
+use Rattle.std.proofs.Common.{◌≡◌, ◌++◌, drop}
+use Rattle.std.specs.List.{flat_map}
+use Rattle.yt_names.specs.Parts.{trees}
+use Rattle.yt_names.specs.Resolved.{own_resources_of}
+use Rattle.yt_names.proofs.heads.add_own_resources.Given as goal
+
+abbrev pub invariant-loop-item : goal.invariant-loop-item
+invariant-loop-item l = l.groups ++ flat_map own_resources_of (trees (drop l.item-index l.items)) ≡ l.fn.groups ++ flat_map own_resources_of (trees l.items)
