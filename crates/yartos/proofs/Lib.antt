@@ -1,9 +1,12 @@
-pub mod AnswerLemmas
+pub mod FilesInOrder
 pub mod FirstLines
 pub mod FirstLoop
 pub mod FirstPieces
 pub mod FirstSums
 pub mod FirstTexts
+pub mod RunLemmas
+pub mod RunVerdicts
+pub mod StageLemmas
 pub mod TopLemmas
 pub mod TraceLines
 pub mod TraceNumbers
@@ -12,3 +15,4 @@ pub mod TraceSplits
 pub mod TraceTexts
 pub mod Verdicts
 pub mod Written
+pub mod Judged

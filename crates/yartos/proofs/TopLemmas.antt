@@ -1,15 +1,21 @@
 -- The clauses of the top call, by the status.
-use Rattle.std.proofs.Common.{◌≡◌, ℕ, ◌<◌, List, length, Option, Some, None, refl, sym, subst, ◌∙◌, inl, inr, ⊎_elim, ◌⊎◌, arith}
-use Rattle.std.specs.Prelude.{IsSomeAnd, Result, Ok, Err, is_err, OnErr, OnOk, true, false, codes}
-use Rattle.std.proofs.lemmas.Bool.{false≢true}
+use Rattle.std.proofs.Common.{◌≡◌, ℕ, ◌<◌, List, length, Option, Some, sym, subst, ◌⊎◌, ⊎_elim, refl, ◌∙◌, arith}
+use Rattle.std.specs.Prelude.{Bool, true, false, if◌then◌else◌, bytes_eq, ◌&&◌, ◌||◌, codes, [], ◌∷◌}
+use Rattle.yt_graph.specs.AstPicture.{ItemTree}
 use Rattle.yt_io.specs.Faults.{IsQuiet, Rose}
-use Rattle.yt_io.specs.Shelf.{IsMissing, HoldsOver}
+use Rattle.yartos.specs.declared.words.Command.{Command}
+use Rattle.yartos.specs.declared.words.Command.TheVariants.{Form, Tasks, Check, Run, Stop}
+use Rattle.yartos.specs.declared.stage.Stage.{Stage}
+use Rattle.yartos.specs.declared.stage.Stage.TheVariants.{Operator, Prints, Misnamed, Unbuilt, Runs}
 use Rattle.yartos.specs.declared.status.Status.{Status}
 use Rattle.yartos.specs.declared.status.Status.TheVariants.{Done, Usage, Graph, Overload, Trace, ReadFault, WriteFault, Missed, NoMemory, Long, NotYet}
-use Rattle.yartos.specs.Answer.{CannotRead, IfVerdict, IsDue, IsDueOf, IsJudged, IsLong, IsRead, IsTooLong, OrNoMemory}
-use Rattle.yartos.specs.Causes.{CallsFor, no_form, long_graph, long_trace, judged}
-use Rattle.yartos.specs.Words.{run_files, Files}
-use Rattle.yartos.proofs.Verdicts.{calls_for, called_once, not_over, same_files, some_none}
+use Rattle.yt_parser.specs.CanonicalText.{canonical_text}
+use Rattle.yartos.specs.Answer.{CannotReadNamed, IfVerdict, IsVerdict, IsDueAt, IsDueToGraph, refused, staged, IsDueOf, IsDueToFiles, too_long, read, IsDueTo, OrNoMemory, OrWriteFault}
+use Rattle.yartos.specs.Causes.{IsCalledFor}
+use Rattle.yartos.specs.RunAnswer.{IsRunDue}
+use Rattle.yartos.specs.Stages.{stage_of}
+use Rattle.yartos.specs.Words.{Plan, misuse, later, judges, plan_of, names_file, is_count, is_demo_count, file_count}
+use Rattle.yartos.proofs.Verdicts.{calls_for, called_once, names_held}
 
 pub verdict_from : {P : Type 0} (s : Status) → P → IfVerdict s P
 verdict_from Done p = p
@@ -37,82 +43,128 @@ or_no_memory NoMemory due e = tt
 or_no_memory Long due e = e
 or_no_memory NotYet due e = e
 
--- what is due to two texts is due to the words that name their files
-judged_files : (told : Option (List ℕ → Option (List ℕ))) (words : List (List ℕ)) (files : Files) (graph trace : List ℕ) (s : Status) (text : List ℕ) →
-    run_files words ≡ Some files → IsRead told files.graph graph → IsRead told files.trace trace → IsDueOf graph trace s text → IsSomeAnd (run_files words) (λ files. IsJudged told files s text)
-judged_files told words files graph trace s text e g t due =
-    subst (λ (o : Option Files). IsSomeAnd o (λ files. IsJudged told files s text)) (sym e) (record { graph = graph; trace = trace; graph_read = g; trace_read = t; due = due })
+-- what is due is a verdict
 
-pub due_from : (told : Option (List ℕ → Option (List ℕ))) (words : List (List ℕ)) (files : Files) (graph trace : List ℕ) (s : Status) (text : List ℕ) →
-    run_files words ≡ Some files → IsRead told files.graph graph → IsRead told files.trace trace → IsDueOf graph trace s text → IsDue told words s text
-due_from told words files graph trace Done text e g t due = judged_files told words files graph trace Done text e g t due
-due_from told words files graph trace Usage text e g t due = absurd due
-due_from told words files graph trace Graph text e g t due = absurd due
-due_from told words files graph trace Overload text e g t due = judged_files told words files graph trace Overload text e g t due
-due_from told words files graph trace Trace text e g t due = judged_files told words files graph trace Trace text e g t due
-due_from told words files graph trace ReadFault text e g t due = absurd due
-due_from told words files graph trace WriteFault text e g t due = absurd due
-due_from told words files graph trace Missed text e g t due = absurd due
-due_from told words files graph trace NoMemory text e g t due = absurd due
-due_from told words files graph trace Long text e g t due = absurd due
-due_from told words files graph trace NotYet text e g t due = inr (judged_files told words files graph trace NotYet text e g t due)
+run_verdict : (graph trace : List ℕ) (s : Status) (text : List ℕ) → IsRunDue graph trace s text → IsVerdict s
+run_verdict graph trace Done text due = tt
+run_verdict graph trace Usage text due = tt
+run_verdict graph trace Graph text due = tt
+run_verdict graph trace Overload text due = tt
+run_verdict graph trace Trace text due = tt
+run_verdict graph trace ReadFault text due = due
+run_verdict graph trace WriteFault text due = due
+run_verdict graph trace Missed text due = tt
+run_verdict graph trace NoMemory text due = due
+run_verdict graph trace Long text due = tt
+run_verdict graph trace NotYet text due = tt
 
--- neither fault of the outside, nor want of memory, is due to files
-pub no_fault_due : (graph trace : List ℕ) (s : Status) (text : List ℕ) → IsDueOf graph trace s text → (s ≡ ReadFault → ⊥) × (s ≡ WriteFault → ⊥) × (s ≡ NoMemory → ⊥)
-no_fault_due graph trace s text due = (
-  λ e. subst (λ (x : Status). IsDueOf graph trace x text) e due,
-  λ e. subst (λ (x : Status). IsDueOf graph trace x text) e due,
-  λ e. subst (λ (x : Status). IsDueOf graph trace x text) e due,
-)
+verdict_is : (s known : Status) → s ≡ known → IsVerdict known → IsVerdict s
+verdict_is s known e is = subst IsVerdict (sym e) is
+
+verdict_at : (stage : Stage) (items : List ItemTree) (others : List (List ℕ)) (s : Status) (text : List ℕ) → IsDueAt stage items others s text → IsVerdict s
+verdict_at Operator items others s text h = verdict_is s NotYet h.0 tt
+verdict_at Prints items others s text h = verdict_is s Done h.0 tt
+verdict_at (Misnamed fault) items others s text h = verdict_is s Graph h.0 tt
+verdict_at Unbuilt items others s text h = verdict_is s NotYet h.0 tt
+verdict_at Runs items [] s text h = absurd h
+verdict_at Runs items (trace ∷ []) s text h = run_verdict (canonical_text items) trace s text h
+verdict_at Runs items (trace ∷ other ∷ others) s text h = absurd h
+
+verdict_in_graph : (command : Command) (graph : List ℕ) (others : List (List ℕ)) (s : Status) (text : List ℕ) → IsDueToGraph command graph others s text → IsVerdict s
+verdict_in_graph command graph others s text (refused is line) = verdict_is s Graph is tt
+verdict_in_graph command graph others s text (staged items tree h) = verdict_at (stage_of command items) items others s text h
+
+verdict_of : (command : Command) (files : List (List ℕ)) (s : Status) (text : List ℕ) → IsDueOf command files s text → IsVerdict s
+verdict_of command [] s text h = absurd h
+verdict_of command (graph ∷ others) s text h = verdict_in_graph command graph others s text h
+
+pub verdict_in_files : (told : Option (List ℕ → Option (List ℕ))) (command : Command) (names : List (List ℕ)) (s : Status) (text : List ℕ) → IsDueToFiles told command names s text → IsVerdict s
+verdict_in_files told command names s text (too_long place long is line) = verdict_is s Long is tt
+verdict_in_files told command names s text (read files are h) = verdict_of command files s text h
+
+-- a command judges as many files as it names
+
+abbrev HasCount : Plan → Type 0
+HasCount misuse = Unit {0}
+HasCount later = Unit {0}
+HasCount (judges command names) = length names ≡ file_count command
+
+either_counts : (b : Bool) (p q : Plan) → HasCount p → HasCount q → HasCount (if b then p else q)
+either_counts true p q h k = h
+either_counts false p q h k = k
+
+-- a plan has this one's words
+judges_counts : (b : Bool) (command : Command) (names : List (List ℕ)) (other : Plan) → length names ≡ file_count command → HasCount other → HasCount (if b then judges command names else other)
+judges_counts b command names other e h = either_counts b (judges command names) other e h
+
+later_counts : (b : Bool) (other : Plan) → HasCount other → HasCount (if b then later else other)
+later_counts b other h = either_counts b later other tt h
+
+plan_counts : (words : List (List ℕ)) → HasCount (plan_of words)
+plan_counts [] = tt
+plan_counts (command ∷ []) = tt
+plan_counts (command ∷ word ∷ []) =
+    judges_counts (bytes_eq command (codes "form") && names_file word) Form (word ∷ []) _ refl
+    (judges_counts (bytes_eq command (codes "tasks") && names_file word) Tasks (word ∷ []) _ refl
+    (judges_counts (bytes_eq command (codes "check") && names_file word) Check (word ∷ []) _ refl
+    (later_counts ((bytes_eq command (codes "set") || bytes_eq command (codes "replay")) && names_file word) _
+    (later_counts (bytes_eq command (codes "demo") && is_demo_count word) misuse tt))))
+plan_counts (command ∷ first ∷ second ∷ []) =
+    judges_counts (bytes_eq command (codes "run") && (names_file first && names_file second)) Run (first ∷ second ∷ []) _ refl
+    (later_counts (bytes_eq command (codes "play") && (names_file first && names_file second)) misuse tt)
+plan_counts (command ∷ graph ∷ trace ∷ tick ∷ []) =
+    judges_counts (bytes_eq command (codes "stop") && (names_file graph && (names_file trace && is_count tick))) Stop (graph ∷ trace ∷ []) misuse refl tt
+plan_counts (command ∷ first ∷ second ∷ third ∷ fourth ∷ words) = tt
+
+-- what is due to a plan is due to words that ask for it
+pub due_for : (told : Option (List ℕ → Option (List ℕ))) (plan other : Plan) (s : Status) (text : List ℕ) → plan ≡ other → IsDueTo told plan s text → IsDueTo told other s text
+due_for told plan other s text e h = subst (λ (p : Plan). IsDueTo told p s text) e h
+
+pub unread_for : (told : Option (List ℕ → Option (List ℕ))) (plan other : Plan) (P : Type 0) → plan ≡ other → CannotReadNamed told plan ⊎ P → CannotReadNamed told other ⊎ P
+unread_for told plan other P e h = subst (λ (p : Plan). CannotReadNamed told p ⊎ P) e h
+
+pub count_for : (words names : List (List ℕ)) (command : Command) → judges command names ≡ plan_of words → length names ≡ file_count command
+count_for words names command e = subst HasCount (sym e) (plan_counts words)
 
 -- what is due is what is called for
-pub is_called_for : (told : Option (List ℕ → Option (List ℕ))) (held : List ℕ → Option (List ℕ)) (words : List (List ℕ)) (s due : Status) (text : List ℕ) →
-    told ≡ Some held → IsDue told words s text → CallsFor held words due → OrNoMemory s due
-is_called_for told held words s due text e is calls =
-    or_no_memory s due (called_once held words s due (calls_for held words s text (subst (λ t. IsDue t words s text) e is)) calls)
-
-is_held : (held : List ℕ → Option (List ℕ)) (name bytes : List ℕ) → held name ≡ Some bytes → IsMissing (Some held) name → ⊥
-is_held held name bytes e missing = let clash : ◌≡◌ {A = Option (List ℕ)} None (Some bytes) = sym missing ∙ e in cc
-
--- a file that is too long is held
-long_held : (held : List ℕ → Option (List ℕ)) (name : List ℕ) → HoldsOver (Some held) name 16777216 → IsMissing (Some held) name → ⊥
-long_held held name over missing = subst (λ (o : Option (List ℕ)). IsSomeAnd o (λ bytes. 16777216 < length bytes)) missing over
-
--- where files are called for, each that is reached can be read
-unread : (held : List ℕ → Option (List ℕ)) (f : Files) (graph : List ℕ) → held f.graph ≡ Some graph → (IsMissing (Some held) f.trace → ⊥) → CannotRead (Some held) f.graph f.trace → ⊥
-unread held f graph e other cannot = ⊎_elim (λ m. is_held held f.graph graph e m) (λ m. other m.1) cannot
-
-can_read : (held : List ℕ → Option (List ℕ)) (words : List (List ℕ)) (files : Files) (due : Status) → run_files words ≡ Some files →
-    CallsFor held words due → CannotRead (Some held) files.graph files.trace → ⊥
-can_read held words files due e (no_form n) cannot = some_none words files n e
-can_read held words files due e (long_graph f p over) cannot =
-    let here = subst (λ (x : Files). CannotRead (Some held) x.graph x.trace) (same_files words files f e p) cannot in
-    ⊎_elim (λ m. long_held held f.graph over m) (λ m. not_over held f.graph m.0.0 (m.0.1).held (m.0.1).short over) here
-can_read held words files due e (long_trace f g p h l over) cannot =
-    unread held f g h (long_held held f.trace over) (subst (λ (x : Files). CannotRead (Some held) x.graph x.trace) (same_files words files f e p) cannot)
-can_read held words files due e (judged f g t s p hg lg ht lt c) cannot =
-    unread held f g hg (is_held held f.trace t ht) (subst (λ (x : Files). CannotRead (Some held) x.graph x.trace) (same_files words files f e p) cannot)
+pub is_called_for : (told : Option (List ℕ → Option (List ℕ))) (held : List ℕ → Option (List ℕ)) (plan : Plan) (s due : Status) (text : List ℕ) →
+    told ≡ Some held → IsDueTo told plan s text → IsCalledFor held plan due → s ≡ due
+is_called_for told held plan s due text e is calls =
+    called_once held plan s due (calls_for held plan s text (subst (λ t. IsDueTo t plan s text) e is)) calls
 
 -- a read fault is not called for where no count rises
-pub no_read_fault : (told : Option (List ℕ → Option (List ℕ))) (held : List ℕ → Option (List ℕ)) (words : List (List ℕ)) (files : Files) (due : Status) (old new : ℕ) →
-    told ≡ Some held → run_files words ≡ Some files → CallsFor held words due → CannotRead told files.graph files.trace ⊎ Rose old new → IsQuiet old new → ⊥
-no_read_fault told held words files due old new e p calls failed quiet =
+pub no_read_fault : (told : Option (List ℕ → Option (List ℕ))) (held : List ℕ → Option (List ℕ)) (plan : Plan) (due : Status) (old new : ℕ) →
+    told ≡ Some held → IsCalledFor held plan due → CannotReadNamed told plan ⊎ Rose old new → IsQuiet old new → ⊥
+no_read_fault told held plan due old new e calls failed quiet =
     ⊎_elim
-    (λ cannot. can_read held words files due p calls (subst (λ t. CannotRead t files.graph files.trace) e cannot))
+    (λ cannot. names_held held plan due calls (subst (λ t. CannotReadNamed t plan) e cannot))
     (λ (rose : Rose old new). let more = rose quiet.1 in let same = quiet.0 in omega arith)
     failed
 
-pub long_graph_due : (told : Option (List ℕ → Option (List ℕ))) (words : List (List ℕ)) (files : Files) → run_files words ≡ Some files → IsTooLong told files.graph → IsDue told words Long (codes "long file 1\n")
-long_graph_due told words files e long = subst (λ (o : Option Files). IsSomeAnd o (λ files. IsLong told files (codes "long file 1\n"))) (sym e) (inl (long, refl))
+-- no write fault where the count doesn't rise
+pub no_write_fault : (result s : Status) (old new : ℕ) → OrWriteFault result s → (result ≡ WriteFault → Rose old new) → IsQuiet old new → result ≡ s
+no_write_fault Done s old new told failed quiet = told
+no_write_fault Usage s old new told failed quiet = told
+no_write_fault Graph s old new told failed quiet = told
+no_write_fault Overload s old new told failed quiet = told
+no_write_fault Trace s old new told failed quiet = told
+no_write_fault ReadFault s old new told failed quiet = told
+no_write_fault WriteFault s old new told failed quiet = let more = failed refl quiet.1 in let same = quiet.0 in absurd (omega arith)
+no_write_fault Missed s old new told failed quiet = told
+no_write_fault NoMemory s old new told failed quiet = told
+no_write_fault Long s old new told failed quiet = told
+no_write_fault NotYet s old new told failed quiet = told
 
-pub long_trace_due : (told : Option (List ℕ → Option (List ℕ))) (words : List (List ℕ)) (files : Files) → run_files words ≡ Some files → ((bytes : List ℕ) × IsRead told files.graph bytes) → IsTooLong told files.trace →
-    IsDue told words Long (codes "long file 2\n")
-long_trace_due told words files e read long = subst (λ (o : Option Files). IsSomeAnd o (λ files. IsLong told files (codes "long file 2\n"))) (sym e) (inr (read, long, refl))
-
-pub on_err : {T E P : Type 0} (r : Result T E) → is_err r ≡ true → OnErr r P → P
-on_err (Ok x) e h = absurd (false≢true e)
-on_err (Err x) e h = h
-
-pub on_ok : {T E P : Type 0} (r : Result T E) → is_err r ≡ false → OnOk r P → P
-on_ok (Ok x) e h = h
-on_ok (Err x) e h = absurd (false≢true (sym e))
+-- what is told is the status, or a write fault
+pub told_known : (result s known : Status) → OrWriteFault result s → (known ≡ WriteFault → ⊥) → result ≡ known → s ≡ known
+told_known Done s known told not e = sym told ∙ e
+told_known Usage s known told not e = sym told ∙ e
+told_known Graph s known told not e = sym told ∙ e
+told_known Overload s known told not e = sym told ∙ e
+told_known Trace s known told not e = sym told ∙ e
+told_known ReadFault s known told not e = sym told ∙ e
+told_known WriteFault s known told not e = absurd (not (sym e))
+told_known Missed s known told not e = sym told ∙ e
+told_known NoMemory s known told not e = sym told ∙ e
+told_known Long s known told not e = sym told ∙ e
+told_known NotYet s known told not e = sym told ∙ e

@@ -1,157 +1,178 @@
 -- What is due to words and files is one status.
-use Rattle.std.proofs.Common.{◌≡◌, ℕ, ◌<◌, ◌≤◌, List, length, Option, Some, None, refl, sym, ap, subst, ◌∙◌, ⊎_elim, arith}
+use Rattle.std.proofs.Common.{◌≡◌, ℕ, zero, suc, ◌<◌, ◌≤◌, List, [], ◌∷◌, ◌++◌, length, Option, Some, None, refl, sym, ap, subst, ◌∙◌, ⊎_elim, append_assoc, append-nil, arith}
 use Rattle.std.specs.Prelude.{IsSomeAnd}
-use Rattle.yt_graph.specs.Cost.{greatest_cost}
+use Rattle.yt_graph.specs.declared.place.Place.{Place}
+use Rattle.yt_graph.specs.AstPicture.{ItemTree}
 use Rattle.yt_io.specs.Shelf.{HoldsOver}
-use Rattle.yt_run.specs.declared.trace.Message.{Message}
-use Rattle.yt_run.specs.First.{First, graph_of, FitsFirst}
-use Rattle.yt_run.specs.Serial.{the_port, period_of}
+use Rattle.yt_lexer.specs.declared.token.Token.{Token}
+use Rattle.yt_lexer.specs.declared.token.LexFault.{LexFault}
+use Rattle.yt_lexer.specs.declared.token.LexFault.TheVariants.{BadByte, LongName, BigNumber, Memory}
+use Rattle.yt_lexer.specs.Lexes.{Lexes, IsFirstFault}
+use Rattle.yt_lexer.proofs.LexesLemmas.{lexes_once}
+use Rattle.yt_parser.specs.CanonicalText.{canonical_text}
+use Rattle.yt_parser.specs.Grammar.{Spells, IsFront, IsStuckAt}
+use Rattle.yt_parser.specs.Lexemes.{Tok, toks_of}
+use Rattle.yt_parser.specs.Parses.{IsSyntaxFault}
+use Rattle.yt_parser.proofs.reading.Graph.{graph_only}
+use Rattle.yartos.specs.declared.words.Command.{Command}
+use Rattle.yartos.specs.declared.stage.Stage.{Stage}
+use Rattle.yartos.specs.declared.stage.Stage.TheVariants.{Operator, Prints, Misnamed, Unbuilt, Runs}
 use Rattle.yartos.specs.declared.status.Status.{Status}
-use Rattle.yartos.specs.declared.status.Status.TheVariants.{Done, Usage, Graph, Overload, Trace, ReadFault, WriteFault, Missed, NoMemory, Long, NotYet}
-use Rattle.yartos.specs.declared.trace.fault.TraceFault.{TraceFault}
-use Rattle.yartos.specs.Answer.{IsDueOf, IsJudged, IsLong, IsDue}
-use Rattle.yartos.specs.Causes.{Spells, Reads, IsCause, no_graph, over, no_trace, fault, legal, CallsFor, no_form, long_graph, long_trace, judged}
-use Rattle.yartos.specs.TraceText.{IsTraceText, fault_in}
-use Rattle.yartos.specs.Words.{run_files, Files}
-use Rattle.yartos.proofs.FirstTexts.{first_text_is_one}
-use Rattle.yartos.proofs.TraceTexts.{trace_text_is_one}
+use Rattle.yartos.specs.declared.status.Status.TheVariants.{Long}
+use Rattle.yartos.specs.Answer as due
+use Rattle.yartos.specs.Answer.{IsDueAt, IsDueToGraph, IsDueOf, IsDueToFiles, IsDueTo, CannotReadNamed}
+use Rattle.yartos.specs.Causes.{IsCauseAt, IsCauseInGraph, refused, staged, IsCauseOf, IsCauseInFiles, too_long, read, IsCalledFor}
+use Rattle.yartos.specs.GraphText.{IsTreeOf, IsRefusedText, not_lexed, not_spelled, IsLexLine}
+use Rattle.yartos.specs.Reads.{IsRead, AreRead, CannotRead, IsFirstLong}
+use Rattle.yartos.specs.Stages.{stage_of}
+use Rattle.yartos.specs.Words.{Plan, misuse, later, judges}
+use Rattle.yartos.proofs.RunVerdicts.{run_cause, one_run_status}
 
-cause_of : (graph trace text : List ℕ) (status : Status) → IsDueOf graph trace status text → IsCause graph trace status
-cause_of graph trace text Done h = legal (record { parts = h.parts; spells = record { param = h.param; spelled = h.spelled }; fits = h.fits; messages = h.messages; traced = h.traced }) h.legal
-cause_of graph trace text Overload h = over h.parts (record { param = h.param; spelled = h.spelled }) h.over
-cause_of graph trace text Trace h = fault (record { parts = h.parts; spells = record { param = h.param; spelled = h.spelled }; fits = h.fits; messages = h.messages; traced = h.traced }) h.fault h.found
-cause_of graph trace text NotYet h = ⊎_elim (λ n. no_graph n) (λ n. no_trace n.parts (record { param = n.param; spelled = n.spelled }) n.fits n.none) h.0
-cause_of graph trace text Usage h = absurd h
-cause_of graph trace text Graph h = absurd h
-cause_of graph trace text ReadFault h = absurd h
-cause_of graph trace text WriteFault h = absurd h
-cause_of graph trace text Missed h = absurd h
-cause_of graph trace text NoMemory h = absurd h
-cause_of graph trace text Long h = absurd h
+-- what is due has its cause
+
+cause_at : (stage : Stage) (items : List ItemTree) (others : List (List ℕ)) (s : Status) (text : List ℕ) → IsDueAt stage items others s text → IsCauseAt stage items others s
+cause_at Operator items others s text h = h.0
+cause_at Prints items others s text h = h.0
+cause_at (Misnamed fault) items others s text h = h.0
+cause_at Unbuilt items others s text h = h.0
+cause_at Runs items [] s text h = absurd h
+cause_at Runs items (trace ∷ []) s text h = run_cause (canonical_text items) trace text s h
+cause_at Runs items (trace ∷ other ∷ others) s text h = absurd h
+
+cause_in_graph : (command : Command) (graph : List ℕ) (others : List (List ℕ)) (s : Status) (text : List ℕ) → IsDueToGraph command graph others s text → IsCauseInGraph command graph others s
+cause_in_graph command graph others s text (due.refused is line) = refused text is line
+cause_in_graph command graph others s text (due.staged items tree h) = staged items tree (cause_at (stage_of command items) items others s text h)
+
+cause_of : (command : Command) (files : List (List ℕ)) (s : Status) (text : List ℕ) → IsDueOf command files s text → IsCauseOf command files s
+cause_of command [] s text h = absurd h
+cause_of command (graph ∷ others) s text h = cause_in_graph command graph others s text h
+
+cause_in_files : (held : List ℕ → Option (List ℕ)) (command : Command) (names : List (List ℕ)) (s : Status) (text : List ℕ) →
+    IsDueToFiles (Some held) command names s text → IsCauseInFiles held command names s
+cause_in_files held command names s text (due.too_long place long is line) = too_long place long is
+cause_in_files held command names s text (due.read files are h) = read files are (cause_of command files s text h)
+
+pub calls_for : (held : List ℕ → Option (List ℕ)) (plan : Plan) (s : Status) (text : List ℕ) → IsDueTo (Some held) plan s text → IsCalledFor held plan s
+calls_for held misuse s text h = h.0
+calls_for held later s text h = h.0
+calls_for held (judges command names) s text h = cause_in_files held command names s text h
+
+-- a text has one tree, or it is refused
+
+one_tree : (graph : List ℕ) (a b : List ItemTree) → IsTreeOf graph a → IsTreeOf graph b → a ≡ b
+one_tree graph a b h k =
+    let same : h.tokens ≡ k.tokens = (lexes_once graph 0 h.tokens k.tokens None None h.lexed k.lexed).0 in
+    let here : Spells (toks_of graph k.tokens) a = subst (λ (ts : List Token). Spells (toks_of graph ts) a) same h.spelled in
+    let read_a = graph_only (toks_of graph k.tokens) a here.1 in
+    let read_b = graph_only (toks_of graph k.tokens) b (k.spelled).1 in
+    cc
+
+-- no tokens spell a tree that are stuck
+not_stuck : (front rest : List Tok) (items : List ItemTree) → IsStuckAt front rest → Spells (front ++ rest) items → ⊥
+not_stuck front [] items stuck spells = stuck.1 items (subst (λ (ts : List Tok). Spells ts items) (append-nil front) spells)
+not_stuck front (t ∷ rest) items stuck spells =
+    let whole : front ++ t ∷ rest ≡ (front ++ t ∷ []) ++ rest = sym (append_assoc front (t ∷ []) rest) in
+    stuck.1 (record { rest = rest; items = items; spells = subst (λ (ts : List Tok). Spells ts items) whole spells })
+
+not_faulty : (graph text : List ℕ) (tokens : List Token) (fault : LexFault) → IsFirstFault graph fault → IsLexLine text fault → Lexes graph 0 tokens None → ⊥
+not_faulty graph text tokens (BadByte p) h line k = let both = lexes_once graph 0 h.0 tokens (Some (BadByte p)) None h.1 k in let e : ◌≡◌ {A = Option LexFault} (Some (BadByte p)) None = both.1 in cc
+not_faulty graph text tokens (LongName p) h line k = let both = lexes_once graph 0 h.0 tokens (Some (LongName p)) None h.1 k in let e : ◌≡◌ {A = Option LexFault} (Some (LongName p)) None = both.1 in cc
+not_faulty graph text tokens (BigNumber p) h line k = let both = lexes_once graph 0 h.0 tokens (Some (BigNumber p)) None h.1 k in let e : ◌≡◌ {A = Option LexFault} (Some (BigNumber p)) None = both.1 in cc
+not_faulty graph text tokens Memory h line k = absurd line
+
+not_refused : (graph text : List ℕ) (items : List ItemTree) → IsRefusedText graph text → IsTreeOf graph items → ⊥
+not_refused graph text items (not_lexed fault first line) tree = not_faulty graph text tree.tokens fault first line tree.lexed
+not_refused graph text items (not_spelled tokens place lexed fault line) tree =
+    let same : tree.tokens ≡ tokens = (lexes_once graph 0 tree.tokens tokens None None tree.lexed lexed).0 in
+    let here : Spells (toks_of graph tokens) items = subst (λ (ts : List Token). Spells (toks_of graph ts) items) same tree.spelled in
+    not_stuck fault.front fault.rest items fault.stuck (subst (λ (ts : List Tok). Spells ts items) fault.splits here)
 
 -- no two causes of different statuses stand together
 
-not_both : (graph : List ℕ) (a b : First) → Spells graph a → Spells graph b → FitsFirst (graph_of a) → period_of (graph_of b) < greatest_cost (the_port (graph_of b)) → ⊥
-not_both graph a b p q fits more =
-    let same : a ≡ b = (first_text_is_one graph a b p.param q.param p.spelled q.spelled).0 in
-    let here : greatest_cost (the_port (graph_of b)) ≤ period_of (graph_of b) = subst (λ (d : First). FitsFirst (graph_of d)) same fits in
+one_at : (stage : Stage) (items : List ItemTree) (others : List (List ℕ)) (s t : Status) → IsCauseAt stage items others s → IsCauseAt stage items others t → s ≡ t
+one_at Operator items others s t p q = p ∙ sym q
+one_at Prints items others s t p q = p ∙ sym q
+one_at (Misnamed fault) items others s t p q = p ∙ sym q
+one_at Unbuilt items others s t p q = p ∙ sym q
+one_at Runs items [] s t p q = absurd p
+one_at Runs items (trace ∷ []) s t p q = one_run_status (canonical_text items) trace s t p q
+one_at Runs items (trace ∷ other ∷ others) s t p q = absurd p
+
+one_in_graph : (command : Command) (graph : List ℕ) (others : List (List ℕ)) (s t : Status) → IsCauseInGraph command graph others s → IsCauseInGraph command graph others t → s ≡ t
+one_in_graph command graph others s t (refused text p line) (refused more q other) = p ∙ sym q
+one_in_graph command graph others s t (refused text p line) (staged items tree h) = absurd (not_refused graph text items line tree)
+one_in_graph command graph others s t (staged items tree h) (refused text p line) = absurd (not_refused graph text items line tree)
+one_in_graph command graph others s t (staged a tree h) (staged b other k) =
+    one_at (stage_of command b) b others s t (subst (λ (items : List ItemTree). IsCauseAt (stage_of command items) items others s) (one_tree graph a b tree other) h) k
+
+one_of : (command : Command) (files : List (List ℕ)) (s t : Status) → IsCauseOf command files s → IsCauseOf command files t → s ≡ t
+one_of command [] s t h k = absurd h
+one_of command (graph ∷ others) s t h k = one_in_graph command graph others s t h k
+
+pub not_over : (held : List ℕ → Option (List ℕ)) (name bytes : List ℕ) → IsRead (Some held) name bytes → HoldsOver (Some held) name 16777216 → ⊥
+not_over held name bytes is longer =
+    let here : 16777216 < length bytes = subst (λ (o : Option (List ℕ)). IsSomeAnd o (λ bytes. 16777216 < length bytes)) is.held longer in
+    let short = is.short in
     omega arith
 
-no_other : (graph trace : List ℕ) (r : Reads graph trace) (b : First) → Spells graph b → ((messages : List Message) → IsTraceText trace b.input messages → ⊥) → ⊥
-no_other graph trace r b q none =
-    let same : r.parts ≡ b = (first_text_is_one graph r.parts b (r.spells).param q.param (r.spells).spelled q.spelled).0 in
-    none r.messages (subst (λ (d : First). IsTraceText trace d.input r.messages) same r.traced)
+-- files that were read are none of which one is too long
+not_long : (held : List ℕ → Option (List ℕ)) (names files : List (List ℕ)) (place : ℕ) → AreRead (Some held) names files → IsFirstLong (Some held) names place → ⊥
+not_long held [] files place are long = long
+not_long held (n ∷ ns) [] place are long = are
+not_long held (n ∷ ns) (b ∷ bs) zero are long = not_over held n b are.0 long
+not_long held (n ∷ ns) (b ∷ bs) (suc place) are long = not_long held ns bs place are.1 long.1
 
-one_fault : (graph trace : List ℕ) (a b : Reads graph trace) (f : TraceFault) → fault_in a.parts.period a.messages ≡ None → fault_in b.parts.period b.messages ≡ Some f → ⊥
-one_fault graph trace a b f kept found =
-    let same : a.parts ≡ b.parts = (first_text_is_one graph a.parts b.parts (a.spells).param (b.spells).param (a.spells).spelled (b.spells).spelled).0 in
-    let here = subst (λ (d : First). IsTraceText trace d.input a.messages) same a.traced in
-    let one : a.messages ≡ b.messages = trace_text_is_one trace b.parts.input a.messages b.messages (b.spells).spelled.input here b.traced in
-    let e : fault_in a.parts.period a.messages ≡ fault_in b.parts.period b.messages =
-    ap (λ (d : First). fault_in d.period a.messages) same ∙ ap (fault_in b.parts.period) one in
-    let clash : ◌≡◌ {A = Option TraceFault} None (Some f) = sym kept ∙ e ∙ found in
+same_bytes : (held : List ℕ → Option (List ℕ)) (name x y : List ℕ) → held name ≡ Some x → held name ≡ Some y → x ≡ y
+same_bytes held name x y p q = let c : ◌≡◌ {A = Option (List ℕ)} (Some x) (Some y) = sym p ∙ q in cc
+
+same_files : (held : List ℕ → Option (List ℕ)) (names a b : List (List ℕ)) → AreRead (Some held) names a → AreRead (Some held) names b → a ≡ b
+same_files held [] [] [] h k = refl
+same_files held [] [] (y ∷ b) h k = absurd k
+same_files held [] (x ∷ a) b h k = absurd h
+same_files held (n ∷ ns) [] b h k = absurd h
+same_files held (n ∷ ns) (x ∷ a) [] h k = absurd k
+same_files held (n ∷ ns) (x ∷ a) (y ∷ b) h k =
+    let first : x ≡ y = same_bytes held n x y (h.0).held (k.0).held in
+    let rest : a ≡ b = same_files held ns a b h.1 k.1 in
     cc
 
-one_status : (graph trace : List ℕ) (a b : Status) → IsCause graph trace a → IsCause graph trace b → a ≡ b
-one_status graph trace a b (no_graph n) (no_graph m) = refl
-one_status graph trace a b (no_graph n) (over d q o) = absurd (n d q.param q.spelled)
-one_status graph trace a b (no_graph n) (no_trace d q f m) = refl
-one_status graph trace a b (no_graph n) (fault r f e) = absurd (n r.parts (r.spells).param (r.spells).spelled)
-one_status graph trace a b (no_graph n) (legal r e) = absurd (n r.parts (r.spells).param (r.spells).spelled)
-one_status graph trace a b (over d q o) (no_graph m) = absurd (m d q.param q.spelled)
-one_status graph trace a b (over d q o) (over e p u) = refl
-one_status graph trace a b (over d q o) (no_trace e p f m) = absurd (not_both graph e d p q f o)
-one_status graph trace a b (over d q o) (fault r f e) = absurd (not_both graph r.parts d r.spells q r.fits o)
-one_status graph trace a b (over d q o) (legal r e) = absurd (not_both graph r.parts d r.spells q r.fits o)
-one_status graph trace a b (no_trace d q f m) (no_graph n) = refl
-one_status graph trace a b (no_trace d q f m) (over e p o) = absurd (not_both graph d e q p f o)
-one_status graph trace a b (no_trace d q f m) (no_trace e p g n) = refl
-one_status graph trace a b (no_trace d q f m) (fault r g e) = absurd (no_other graph trace r d q m)
-one_status graph trace a b (no_trace d q f m) (legal r e) = absurd (no_other graph trace r d q m)
-one_status graph trace a b (fault r f e) (no_graph n) = absurd (n r.parts (r.spells).param (r.spells).spelled)
-one_status graph trace a b (fault r f e) (over d q o) = absurd (not_both graph r.parts d r.spells q r.fits o)
-one_status graph trace a b (fault r f e) (no_trace d q g m) = absurd (no_other graph trace r d q m)
-one_status graph trace a b (fault r f e) (fault s g u) = refl
-one_status graph trace a b (fault r f e) (legal s u) = absurd (one_fault graph trace s r f u e)
-one_status graph trace a b (legal r e) (no_graph n) = absurd (n r.parts (r.spells).param (r.spells).spelled)
-one_status graph trace a b (legal r e) (over d q o) = absurd (not_both graph r.parts d r.spells q r.fits o)
-one_status graph trace a b (legal r e) (no_trace d q f m) = absurd (no_other graph trace r d q m)
-one_status graph trace a b (legal r e) (fault s f u) = absurd (one_fault graph trace r s f e u)
-one_status graph trace a b (legal r e) (legal s u) = refl
-
-calls_judged : (held : List ℕ → Option (List ℕ)) (words : List (List ℕ)) (o : Option Files) (s : Status) (text : List ℕ) → run_files words ≡ o →
-    IsSomeAnd o (λ files. IsJudged (Some held) files s text) → CallsFor held words s
-calls_judged held words None s text e h = absurd h
-calls_judged held words (Some files) s text e h =
-    judged files h.graph h.trace s e (h.graph_read).held (h.graph_read).short (h.trace_read).held (h.trace_read).short (cause_of h.graph h.trace text s h.due)
-
-calls_long : (held : List ℕ → Option (List ℕ)) (words : List (List ℕ)) (o : Option Files) (text : List ℕ) → run_files words ≡ o →
-    IsSomeAnd o (λ files. IsLong (Some held) files text) → CallsFor held words Long
-calls_long held words None text e h = absurd h
-calls_long held words (Some files) text e h = ⊎_elim (λ l. long_graph files e l.0) (λ l. long_trace files l.0.0 e (l.0.1).held (l.0.1).short l.1) h
-
--- what is due is called for
-pub calls_for : (held : List ℕ → Option (List ℕ)) (words : List (List ℕ)) (s : Status) (text : List ℕ) → IsDue (Some held) words s text → CallsFor held words s
-calls_for held words NotYet text h = ⊎_elim (λ n. no_form n.0) (λ j. calls_judged held words (run_files words) NotYet text refl j) h
-calls_for held words Long text h = calls_long held words (run_files words) text refl h
-calls_for held words Done text h = calls_judged held words (run_files words) Done text refl h
-calls_for held words Usage text h = calls_judged held words (run_files words) Usage text refl h
-calls_for held words Graph text h = calls_judged held words (run_files words) Graph text refl h
-calls_for held words Overload text h = calls_judged held words (run_files words) Overload text refl h
-calls_for held words Trace text h = calls_judged held words (run_files words) Trace text refl h
-calls_for held words ReadFault text h = calls_judged held words (run_files words) ReadFault text refl h
-calls_for held words WriteFault text h = calls_judged held words (run_files words) WriteFault text refl h
-calls_for held words Missed text h = calls_judged held words (run_files words) Missed text refl h
-calls_for held words NoMemory text h = calls_judged held words (run_files words) NoMemory text refl h
-
-pub not_over : (held : List ℕ → Option (List ℕ)) (name bytes : List ℕ) → held name ≡ Some bytes → length bytes ≤ 16777216 → HoldsOver (Some held) name 16777216 → ⊥
-not_over held name bytes e short longer =
-    let here : 16777216 < length bytes = subst (λ (o : Option (List ℕ)). IsSomeAnd o (λ bytes. 16777216 < length bytes)) e longer in
-    omega arith
-
-pub same_files : (words : List (List ℕ)) (f g : Files) → run_files words ≡ Some f → run_files words ≡ Some g → f ≡ g
-same_files words f g p q = let e : ◌≡◌ {A = Option Files} (Some f) (Some g) = sym p ∙ q in cc
-
-same_bytes : (held : List ℕ → Option (List ℕ)) (a b : List ℕ) (x y : List ℕ) → a ≡ b → held a ≡ Some x → held b ≡ Some y → x ≡ y
-same_bytes held a b x y e p q = let c : ◌≡◌ {A = Option (List ℕ)} (Some x) (Some y) = sym p ∙ ap held e ∙ q in cc
-
-pub some_none : (words : List (List ℕ)) (f : Files) → run_files words ≡ None → run_files words ≡ Some f → ⊥
-some_none words f n e = let c : ◌≡◌ {A = Option Files} None (Some f) = sym n ∙ e in cc
-
--- a graph that was read is not too long
-read_or_long : (held : List ℕ → Option (List ℕ)) (words : List (List ℕ)) (f g : Files) (bytes : List ℕ) → run_files words ≡ Some f → run_files words ≡ Some g → held f.graph ≡ Some bytes → length bytes ≤ 16777216 →
-    HoldsOver (Some held) g.graph 16777216 → ⊥
-read_or_long held words f g bytes p q e short longer =
-    not_over held f.graph bytes e short (subst (λ (x : Files). HoldsOver (Some held) x.graph 16777216) (sym (same_files words f g p q)) longer)
-
-trace_or_long : (held : List ℕ → Option (List ℕ)) (words : List (List ℕ)) (f g : Files) (bytes : List ℕ) → run_files words ≡ Some f → run_files words ≡ Some g → held f.trace ≡ Some bytes → length bytes ≤ 16777216 →
-    HoldsOver (Some held) g.trace 16777216 → ⊥
-trace_or_long held words f g bytes p q e short longer =
-    not_over held f.trace bytes e short (subst (λ (x : Files). HoldsOver (Some held) x.trace 16777216) (sym (same_files words f g p q)) longer)
-
-judged_one : (held : List ℕ → Option (List ℕ)) (words : List (List ℕ)) (f g : Files) (a b x y : List ℕ) (s t : Status) → run_files words ≡ Some f → run_files words ≡ Some g →
-    held f.graph ≡ Some a → held g.graph ≡ Some b → held f.trace ≡ Some x → held g.trace ≡ Some y → IsCause a x s → IsCause b y t → s ≡ t
-judged_one held words f g a b x y s t p q ha hb hx hy c d =
-    let same = same_files words f g p q in
-    let graphs : a ≡ b = same_bytes held f.graph g.graph a b (ap (λ (z : Files). z.graph) same) ha hb in
-    let traces : x ≡ y = same_bytes held f.trace g.trace x y (ap (λ (z : Files). z.trace) same) hx hy in
-    one_status b y s t (subst (λ z. IsCause b z s) traces (subst (λ z. IsCause z x s) graphs c)) d
+one_in_files : (held : List ℕ → Option (List ℕ)) (command : Command) (names : List (List ℕ)) (s t : Status) → IsCauseInFiles held command names s → IsCauseInFiles held command names t → s ≡ t
+one_in_files held command names s t (too_long place long p) (too_long other more q) = p ∙ sym q
+one_in_files held command names s t (too_long place long p) (read files are h) = absurd (not_long held names files place are long)
+one_in_files held command names s t (read files are h) (too_long place long p) = absurd (not_long held names files place are long)
+one_in_files held command names s t (read a are h) (read b too k) = one_of command b s t (subst (λ (files : List (List ℕ)). IsCauseOf command files s) (same_files held names a b are too) h) k
 
 -- one status is called for
-pub called_once : (held : List ℕ → Option (List ℕ)) (words : List (List ℕ)) (s t : Status) → CallsFor held words s → CallsFor held words t → s ≡ t
-called_once held words s t (no_form n) (no_form m) = refl
-called_once held words s t (no_form n) (long_graph f e o) = absurd (some_none words f n e)
-called_once held words s t (no_form n) (long_trace f g e h l o) = absurd (some_none words f n e)
-called_once held words s t (no_form n) (judged f g x u e hg lg hx lx c) = absurd (some_none words f n e)
-called_once held words s t (long_graph f e o) (no_form n) = absurd (some_none words f n e)
-called_once held words s t (long_graph f e o) (long_graph g d p) = refl
-called_once held words s t (long_graph f e o) (long_trace g b d h l p) = refl
-called_once held words s t (long_graph f e o) (judged g b x u d hg lg hx lx c) = absurd (read_or_long held words g f b d e hg lg o)
-called_once held words s t (long_trace f g e h l o) (no_form n) = absurd (some_none words f n e)
-called_once held words s t (long_trace f g e h l o) (long_graph k d p) = refl
-called_once held words s t (long_trace f g e h l o) (long_trace k b d i m p) = refl
-called_once held words s t (long_trace f g e h l o) (judged k b x u d hg lg hx lx c) = absurd (trace_or_long held words k f x d e hx lx o)
-called_once held words s t (judged f g x u e hg lg hx lx c) (no_form n) = absurd (some_none words f n e)
-called_once held words s t (judged f g x u e hg lg hx lx c) (long_graph k d p) = absurd (read_or_long held words f k g e d hg lg p)
-called_once held words s t (judged f g x u e hg lg hx lx c) (long_trace k b d h l p) = absurd (trace_or_long held words f k x e d hx lx p)
-called_once held words s t (judged f g x u e hg lg hx lx c) (judged k b y v d ib mb iy my z) = judged_one held words f k g b x y u v e d hg ib hx iy c z
+pub called_once : (held : List ℕ → Option (List ℕ)) (plan : Plan) (s t : Status) → IsCalledFor held plan s → IsCalledFor held plan t → s ≡ t
+called_once held misuse s t p q = p ∙ sym q
+called_once held later s t p q = p ∙ sym q
+called_once held (judges command names) s t p q = one_in_files held command names s t p q
+
+-- a file that is too long is held
+long_held : (held : List ℕ → Option (List ℕ)) (name : List ℕ) → HoldsOver (Some held) name 16777216 → held name ≡ None → ⊥
+long_held held name over missing = subst (λ (o : Option (List ℕ)). IsSomeAnd o (λ bytes. 16777216 < length bytes)) missing over
+
+read_held : (held : List ℕ → Option (List ℕ)) (name bytes : List ℕ) → IsRead (Some held) name bytes → held name ≡ None → ⊥
+read_held held name bytes is missing = let here = is.held in let clash : ◌≡◌ {A = Option (List ℕ)} None (Some bytes) = sym missing ∙ here in cc
+
+-- files that can be read, or of which the first failure is one that is too long, are none of which one that is reached isn't held
+
+can_read : (held : List ℕ → Option (List ℕ)) (names files : List (List ℕ)) → AreRead (Some held) names files → CannotRead (Some held) names → ⊥
+can_read held [] files are cannot = cannot
+can_read held (n ∷ ns) [] are cannot = are
+can_read held (n ∷ ns) (b ∷ bs) are cannot = ⊎_elim (λ m. read_held held n b are.0 m) (λ m. can_read held ns bs are.1 m.1) cannot
+
+can_reach : (held : List ℕ → Option (List ℕ)) (names : List (List ℕ)) (place : ℕ) → IsFirstLong (Some held) names place → CannotRead (Some held) names → ⊥
+can_reach held [] place long cannot = cannot
+can_reach held (n ∷ ns) zero long cannot = ⊎_elim (λ m. long_held held n long m) (λ m. not_over held n m.0.0 m.0.1 long) cannot
+can_reach held (n ∷ ns) (suc place) long cannot = ⊎_elim (λ m. read_held held n long.0.0 long.0.1 m) (λ m. can_reach held ns place long.1 m.1) cannot
+
+reads_or_reaches : (held : List ℕ → Option (List ℕ)) (command : Command) (names : List (List ℕ)) (s : Status) → IsCauseInFiles held command names s → CannotRead (Some held) names → ⊥
+reads_or_reaches held command names s (too_long place long is) cannot = can_reach held names place long cannot
+reads_or_reaches held command names s (read files are h) cannot = can_read held names files are cannot
+
+-- where a status is called for, the words name no file that cannot be read
+pub names_held : (held : List ℕ → Option (List ℕ)) (plan : Plan) (s : Status) → IsCalledFor held plan s → CannotReadNamed (Some held) plan → ⊥
+names_held held misuse s h cannot = cannot
+names_held held later s h cannot = cannot
+names_held held (judges command names) s h cannot = reads_or_reaches held command names s h cannot

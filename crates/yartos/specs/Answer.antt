@@ -1,115 +1,82 @@
 -- What is due to the words and to the files that they name.
-use Rattle.std.specs.Prelude.{◌≡◌, ◌⊎◌, ℕ, ◌<◌, ◌≤◌, List, length, Option, Some, None, IfSome, IsSomeAnd, codes}
-use Rattle.yt_io.specs.Shelf.{IsMissing, HoldsOver}
-use Rattle.yt_graph.specs.Cost.{greatest_cost}
-use Rattle.yt_run.specs.declared.trace.Message.{Message}
-use Rattle.yt_run.specs.declared.told.OutLine.{OutLine}
-use Rattle.yt_run.specs.Ticks.{Ticks}
-use Rattle.yt_run.specs.Serial.{the_port, period_of, task_set}
-use Rattle.yt_run.specs.Told.{IsPromisedRun}
-use Rattle.yt_run.specs.RunText.{run_text, read_back}
-use Rattle.yt_run.specs.First.{First, graph_of, FitsFirst}
-use Rattle.yt_run.specs.Pattern.{all_tasks, pattern_plan, MustMiss}
-use Rattle.yartos.specs.Causes.{IsNoFirstText}
-use Rattle.yartos.specs.FirstText.{IsFirstText}
-use Rattle.yartos.specs.OverloadText.{overload_text}
-use Rattle.yartos.specs.TraceText.{IsTraceText, fault_in, fault_text}
-use Rattle.yartos.specs.Words.{run_files, Files}
-use Rattle.yartos.specs.declared.trace.fault.TraceFault.{TraceFault}
+use Rattle.std.specs.Prelude.{◌≡◌, ℕ, suc, List, [], ◌∷◌, ◌++◌, Option, codes}
+use Rattle.std.specs.Fmt.{decimal}
+use Rattle.yt_graph.specs.AstPicture.{ItemTree}
+use Rattle.yt_parser.specs.CanonicalText.{canonical_text}
+use Rattle.yartos.specs.declared.words.Command.{Command}
+use Rattle.yartos.specs.declared.stage.Stage.{Stage}
+use Rattle.yartos.specs.declared.stage.Stage.TheVariants.{Operator, Prints, Misnamed, Unbuilt, Runs}
 use Rattle.yartos.specs.declared.status.Status.{Status}
-use Rattle.yartos.specs.declared.status.Status.TheVariants.{Done, Usage, Graph, Overload, Trace, ReadFault, WriteFault, Missed, NoMemory, Long, NotYet}
+use Rattle.yartos.specs.declared.status.Status.TheVariants.{Done, Usage, Graph, ReadFault, WriteFault, NoMemory, Long, NotYet}
+use Rattle.yartos.specs.GraphText.{IsTreeOf, IsRefusedText, IsNameLine}
+use Rattle.yartos.specs.Reads.{AreRead, CannotRead, IsFirstLong}
+use Rattle.yartos.specs.RunAnswer.{IsRunDue}
+use Rattle.yartos.specs.Stages.{stage_of}
+use Rattle.yartos.specs.Words.{Plan, misuse, later, judges, plan_of}
 
--- the text is that of a run of the graph on the trace, and what is read back from it keeps every promise
-pub record IsRun (graph trace text : List ℕ) : Type 0 where
-  pub parts : First
-  pub param : List ℕ
-  pub spelled : IsFirstText graph parts param
-  pub fits : FitsFirst (graph_of parts)
-  pub messages : List Message
-  pub traced : IsTraceText trace parts.input messages
-  pub legal : fault_in parts.period messages ≡ None
-  pub log : Ticks
-  pub lines : List OutLine
-  pub read : read_back (graph_of parts) text ≡ record { log = log; lines = lines }
-  pub printed : text ≡ run_text (graph_of parts) log lines
-  pub promised : IsPromisedRun (graph_of parts) messages log lines
+-- the answer to what isn't built yet
+abbrev pub IsNotYet : Status → List ℕ → Type 0
+IsNotYet status text = (status ≡ NotYet) × (text ≡ codes "notyet\n")
 
--- the graph doesn't fit: each work-conserving, exclusive schedule of the arrivals that the text shows misses a deadline
-pub record IsOverload (graph text : List ℕ) : Type 0 where
-  pub parts : First
-  pub param : List ℕ
-  pub spelled : IsFirstText graph parts param
-  pub over : period_of (graph_of parts) < greatest_cost (the_port (graph_of parts))
-  pub printed : text ≡ overload_text (graph_of parts)
-  pub must_miss : MustMiss (task_set (graph_of parts)) (pattern_plan (all_tasks (graph_of parts))) (period_of (graph_of parts))
+-- this status with this text is due to a run of this graph, by its canonical text, on what the one other file holds
+abbrev pub IsDueToRun : List ItemTree → List (List ℕ) → Status → List ℕ → Type 0
+IsDueToRun items [] status text = ⊥
+IsDueToRun items (trace ∷ []) status text = IsRunDue (canonical_text items) trace status text
+IsDueToRun items (trace ∷ other ∷ others) status text = ⊥
 
--- the graph fits, and the trace breaks its period: this is its first fault
-pub record IsTraceFault (graph trace text : List ℕ) : Type 0 where
-  pub parts : First
-  pub param : List ℕ
-  pub spelled : IsFirstText graph parts param
-  pub fits : FitsFirst (graph_of parts)
-  pub messages : List Message
-  pub traced : IsTraceText trace parts.input messages
-  pub fault : TraceFault
-  pub found : fault_in parts.period messages ≡ Some fault
-  pub printed : text ≡ fault_text fault
+-- this status with this text is due to this graph and what the other files hold, by where the command stands
+abbrev pub IsDueAt : Stage → List ItemTree → List (List ℕ) → Status → List ℕ → Type 0
+IsDueAt Operator items others status text = IsNotYet status text
+IsDueAt Prints items others status text = (status ≡ Done) × (text ≡ canonical_text items)
+IsDueAt (Misnamed fault) items others status text = (status ≡ Graph) × IsNameLine text fault
+IsDueAt Unbuilt items others status text = IsNotYet status text
+IsDueAt Runs items others status text = IsDueToRun items others status text
 
--- the graph fits, and the trace's text is none of those that are run so far
-pub record IsNoTraceText (graph trace : List ℕ) : Type 0 where
-  pub parts : First
-  pub param : List ℕ
-  pub spelled : IsFirstText graph parts param
-  pub fits : FitsFirst (graph_of parts)
-  pub none : (messages : List Message) → IsTraceText trace parts.input messages → ⊥
+-- this status with this text is due to a command and what the graph's and the other files hold
+pub data IsDueToGraph (command : Command) (graph : List ℕ) (others : List (List ℕ)) (status : Status) (text : List ℕ) : Type 0 where
+  refused : status ≡ Graph → IsRefusedText graph text → IsDueToGraph command graph others status text
+  staged : (items : List ItemTree) → IsTreeOf graph items → IsDueAt (stage_of command items) items others status text → IsDueToGraph command graph others status text
 
--- this status with this text is due to what the two files hold
-abbrev pub IsDueOf : List ℕ → List ℕ → Status → List ℕ → Type 0
-IsDueOf graph trace Done text = IsRun graph trace text
-IsDueOf graph trace Overload text = IsOverload graph text
-IsDueOf graph trace Trace text = IsTraceFault graph trace text
-IsDueOf graph trace NotYet text = (IsNoFirstText graph ⊎ IsNoTraceText graph trace) × (text ≡ codes "notyet\n")
-IsDueOf graph trace Usage text = ⊥
-IsDueOf graph trace Graph text = ⊥
-IsDueOf graph trace ReadFault text = ⊥
-IsDueOf graph trace WriteFault text = ⊥
-IsDueOf graph trace Missed text = ⊥
-IsDueOf graph trace NoMemory text = ⊥
-IsDueOf graph trace Long text = ⊥
+-- this status with this text is due to a command and what its files hold, the graph first
+abbrev pub IsDueOf : Command → List (List ℕ) → Status → List ℕ → Type 0
+IsDueOf command [] status text = ⊥
+IsDueOf command (graph ∷ others) status text = IsDueToGraph command graph others status text
 
--- a file was read: these are its bytes, where the shelf tells, and not too many
-pub record IsRead (told : Option (List ℕ → Option (List ℕ))) (name bytes : List ℕ) : Type 0 where
-  pub held : IfSome told (λ files. files name ≡ Some bytes)
-  pub short : length bytes ≤ 16777216
+-- the line of a file that is too long, by its number among the files
+abbrev pub long_line : ℕ → List ℕ
+long_line number = codes "long file" ++ (32 ∷ decimal number ++ 10 ∷ [])
 
--- both files were read, and this is due to them
-pub record IsJudged (told : Option (List ℕ → Option (List ℕ))) (files : Files) (status : Status) (text : List ℕ) : Type 0 where
-  pub graph : List ℕ
-  pub trace : List ℕ
-  pub graph_read : IsRead told files.graph graph
-  pub trace_read : IsRead told files.trace trace
-  pub due : IsDueOf graph trace status text
+-- this status with this text is due to a command and the files that it names
+pub data IsDueToFiles (told : Option (List ℕ → Option (List ℕ))) (command : Command) (names : List (List ℕ)) (status : Status) (text : List ℕ) : Type 0 where
+  too_long : (place : ℕ) → IsFirstLong told names place → status ≡ Long → text ≡ long_line (suc place) → IsDueToFiles told command names status text
+  read : (files : List (List ℕ)) → AreRead told names files → IsDueOf command files status text → IsDueToFiles told command names status text
 
--- where the shelf tells, the name holds more bytes than are read
-abbrev pub IsTooLong : Option (List ℕ → Option (List ℕ)) → List ℕ → Type 0
-IsTooLong told name = IfSome told (λ _. HoldsOver told name 16777216)
+-- the line that tells the listed forms
+abbrev pub usage_line : List ℕ
+usage_line = codes "usage: yartos form G, tasks G, check G, run G T, stop G T N, set S, play S P, replay S, demo N\n"
 
--- the shelf tells that the first file isn't held, or that the second isn't while the first was read
-abbrev pub CannotRead : Option (List ℕ → Option (List ℕ)) → List ℕ → List ℕ → Type 0
-CannotRead told graph trace = IsMissing told graph ⊎ (((bytes : List ℕ) × IsRead told graph bytes) × IsMissing told trace)
-
--- the first file is too long, or it was read and the second is
-abbrev pub IsLong : Option (List ℕ → Option (List ℕ)) → Files → List ℕ → Type 0
-IsLong told files text =
-    (IsTooLong told files.graph × (text ≡ codes "long file 1\n"))
-    ⊎ (((bytes : List ℕ) × IsRead told files.graph bytes) × IsTooLong told files.trace × (text ≡ codes "long file 2\n"))
+-- this status with this text is due to what words ask for
+abbrev pub IsDueTo : Option (List ℕ → Option (List ℕ)) → Plan → Status → List ℕ → Type 0
+IsDueTo told misuse status text = (status ≡ Usage) × (text ≡ usage_line)
+IsDueTo told later status text = IsNotYet status text
+IsDueTo told (judges command names) status text = IsDueToFiles told command names status text
 
 -- this status with this text is due to the words and the files that they name
 abbrev pub IsDue : Option (List ℕ → Option (List ℕ)) → List (List ℕ) → Status → List ℕ → Type 0
-IsDue told words NotYet text =
-    ((run_files words ≡ None) × (text ≡ codes "notyet\n")) ⊎ IsSomeAnd (run_files words) (λ files. IsJudged told files NotYet text)
-IsDue told words Long text = IsSomeAnd (run_files words) (λ files. IsLong told files text)
-IsDue told words status text = IsSomeAnd (run_files words) (λ files. IsJudged told files status text)
+IsDue told words status text = IsDueTo told (plan_of words) status text
+
+-- the shelf tells that a file isn't held which the words name, and each before it was read
+abbrev pub CannotReadNamed : Option (List ℕ → Option (List ℕ)) → Plan → Type 0
+CannotReadNamed told misuse = ⊥
+CannotReadNamed told later = ⊥
+CannotReadNamed told (judges command names) = CannotRead told names
+
+-- the status tells of neither a read nor a write nor memory that failed
+abbrev pub IsVerdict : Status → Type 0
+IsVerdict ReadFault = ⊥
+IsVerdict WriteFault = ⊥
+IsVerdict NoMemory = ⊥
+IsVerdict status = Unit {0}
 
 -- P, unless a read, a write or memory failed
 abbrev pub IfVerdict : Status → Type 0 → Type 0

@@ -1,30 +1,11 @@
 -- The text of a graph that a first run takes, byte for byte.
-use Rattle.std.specs.Prelude.{◌≡◌, ◌≢◌, ℕ, ◌==◌, ◌&&◌, ◌||◌, not, nat_le, Bool, false, List, [], ◌∷◌, ◌++◌, length, bytes_eq, codes, IsTrue}
-use Rattle.std.specs.List.{list_any, list_all}
+use Rattle.std.specs.Prelude.{◌≡◌, ◌≢◌, ℕ, ◌&&◌, not, nat_le, Bool, false, List, [], ◌∷◌, ◌++◌, length, codes, IsTrue}
+use Rattle.std.specs.List.{list_all}
 use Rattle.std.specs.Fmt.{decimal}
+use Rattle.yt_lexer.specs.First.{is_letter, is_word_byte, is_reserved}
 use Rattle.yt_run.specs.First.{First, Operand, the_message, the_number, IsInRange}
 
--- a letter or `_`
-abbrev pub is_letter : ℕ → Bool
-is_letter c = (nat_le 65 c && nat_le c 90) || ((nat_le 97 c && nat_le c 122) || (c == 95))
-
-abbrev pub is_digit : ℕ → Bool
-is_digit c = nat_le 48 c && nat_le c 57
-
--- a byte of words and numbers
-abbrev pub is_word_byte : ℕ → Bool
-is_word_byte c = is_letter c || is_digit c
-
--- words that name nothing
-abbrev pub reserved_words : List (List ℕ)
-reserved_words =
-    codes "input" ∷ codes "output" ∷ codes "resource" ∷ codes "process" ∷ codes "in" ∷ codes "var" ∷ codes "port" ∷ codes "from" ∷ codes "out" ∷
-    codes "every" ∷ codes "period" ∷ codes "let" ∷ codes "send" ∷ codes "if" ∷ codes "else" ∷ codes "repeat" ∷ codes "max" ∷ codes "and" ∷ codes "or" ∷ codes "not" ∷
-    codes "burst" ∷ codes "within" ∷ codes "native" ∷ codes "cost" ∷ codes "node" ∷ codes "link" ∷ codes "delay" ∷ []
-
-abbrev pub is_reserved : List ℕ → Bool
-is_reserved word = list_any (λ r. bytes_eq r word) reserved_words
-
+-- a letter or `_` comes first
 abbrev pub begins_as_word : List ℕ → Bool
 begins_as_word [] = false
 begins_as_word (c ∷ cs) = is_letter c

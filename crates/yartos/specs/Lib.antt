@@ -1,10 +1,16 @@
 pub mod Answer
+pub mod Calls
 pub mod Causes
 pub mod Code
 pub mod FirstParts
 pub mod FirstReading
 pub mod FirstText
+pub mod GraphText
 pub mod OverloadText
+pub mod Reads
+pub mod RunAnswer
+pub mod RunCauses
 pub mod Split
+pub mod Stages
 pub mod TraceText
 pub mod Words

@@ -1,7 +1,15 @@
--- The words of a command.
-use Rattle.std.specs.Prelude.{ℕ, List, [], ◌∷◌, map, Bool, true, not, ◌&&◌, ◌==◌, String, string_bytes, Option, Some, None, if◌then◌else◌, bytes_eq, codes}
-use Rattle.std.specs.Borrow.{Bor}
+-- The words of a command, and what they ask for.
+use Rattle.std.specs.Prelude.{ℕ, List, [], ◌∷◌, length, map, Bool, true, false, not, ◌&&◌, ◌||◌, ◌==◌, nat_lt, nat_le, String, string_bytes, if◌then◌else◌, bytes_eq, codes}
+use Rattle.std.specs.List.{list_all}
 use Rattle.std.specs.declared.alloc.Global.{Global}
+use Rattle.yt_base.specs.declared.numbers.Decimal.{Decimal}
+use Rattle.yt_base.specs.declared.numbers.Decimal.TheVariants.{Other, Over, Value}
+use Rattle.yt_base.specs.Digits.{digits_of_text}
+use Rattle.yt_lexer.specs.First.{is_digit}
+use Rattle.yartos.specs.declared.words.Command.{Command}
+use Rattle.yartos.specs.declared.words.Command.TheVariants.{Form, Tasks, Check, Run, Stop}
+use Rattle.yartos.specs.declared.words.Plan as declared
+use Rattle.yartos.specs.declared.words.Plan.TheVariants.{Misuse, Later, Judges}
 
 -- the bytes of each word
 abbrev pub texts : List (String Global) → List (List ℕ)
@@ -12,17 +20,53 @@ abbrev pub names_file : List ℕ → Bool
 names_file [] = true
 names_file (c ∷ cs) = not (c == 45)
 
--- the two files of a run
-pub record Files : Type 0 where
-  pub graph : List ℕ
-  pub trace : List ℕ
+-- a count is one to eight decimal digits
+abbrev pub is_count : List ℕ → Bool
+is_count word = nat_lt 0 (length word) && (nat_le (length word) 8 && list_all is_digit word)
 
--- the files of two words
-abbrev pub files_named : Bor (List ℕ) × Bor (List ℕ) → Files
-files_named (graph, trace) = record { graph = graph.now; trace = trace.now }
+abbrev pub is_from_1_to_16 : Decimal → Bool
+is_from_1_to_16 (Value n) = nat_le 1 n && nat_le n 16
+is_from_1_to_16 Over = false
+is_from_1_to_16 Other = false
 
--- the files of the words `run GRAPH TRACE`
-abbrev pub run_files : List (List ℕ) → Option Files
-run_files (command ∷ graph ∷ trace ∷ []) =
-    if bytes_eq command (codes "run") && (names_file graph && names_file trace) then Some (record { graph = graph; trace = trace }) else None
-run_files words = None
+-- a count from 1 to 16
+abbrev pub is_demo_count : List ℕ → Bool
+is_demo_count word = is_count word && is_from_1_to_16 (digits_of_text word)
+
+-- what words ask for: they are no listed form, they're of a form that isn't built yet, or a command judges these files
+pub data Plan : Type 0 where
+  misuse : Plan
+  later : Plan
+  judges : Command → List (List ℕ) → Plan
+
+-- what words ask for: one word behind the command, two or three, as the listed forms have them
+abbrev pub plan_of : List (List ℕ) → Plan
+plan_of (command ∷ word ∷ []) =
+    if bytes_eq command (codes "form") && names_file word then judges Form (word ∷ [])
+    else (if bytes_eq command (codes "tasks") && names_file word then judges Tasks (word ∷ [])
+    else (if bytes_eq command (codes "check") && names_file word then judges Check (word ∷ [])
+    else (if (bytes_eq command (codes "set") || bytes_eq command (codes "replay")) && names_file word then later
+    else (if bytes_eq command (codes "demo") && is_demo_count word then later
+    else misuse))))
+plan_of (command ∷ first ∷ second ∷ []) =
+    if bytes_eq command (codes "run") && (names_file first && names_file second) then judges Run (first ∷ second ∷ [])
+    else (if bytes_eq command (codes "play") && (names_file first && names_file second) then later
+    else misuse)
+plan_of (command ∷ graph ∷ trace ∷ tick ∷ []) =
+    if bytes_eq command (codes "stop") && (names_file graph && (names_file trace && is_count tick)) then judges Stop (graph ∷ trace ∷ [])
+    else misuse
+plan_of words = misuse
+
+-- how many files a command judges
+abbrev pub file_count : Command → ℕ
+file_count Form = 1
+file_count Tasks = 1
+file_count Check = 1
+file_count Run = 2
+file_count Stop = 2
+
+-- the plan that the code finds, with the bytes of the words
+abbrev pub plan_found : declared.Plan → Plan
+plan_found Misuse = misuse
+plan_found Later = later
+plan_found (Judges command files) = judges command (texts files.now)

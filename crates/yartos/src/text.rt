@@ -30,6 +30,13 @@ impl Text {
         }
     }
 
+    /// Takes over the bytes of a `Vec`, with no memory.
+    pub(crate) fn from_bytes(bytes: Vec<u8>) -> Self
+        ensures { result ≡ bytes.items }
+    {
+        Text { bytes }
+    }
+
     /// The bytes so far.
     pub(crate) fn as_slice(&self) -> &[u8]
         ensures { result.now ≡ self.now }

@@ -1,17 +1,96 @@
 //! The forms of the words.
-ghost use Rattle.std.specs.Prelude.{◌≡◌, option_map};
-ghost use Rattle.yartos.specs.Words.{files_named, names_file, run_files, texts};
+ghost use Rattle.std.specs.Prelude.{◌≡◌, [], ◌∷◌};
+ghost use Rattle.std.specs.List.{list_all};
+ghost use Rattle.yt_lexer.specs.First.{is_digit};
+ghost use Rattle.yartos.specs.Words.{is_count, is_demo_count, names_file, plan_found, plan_of, texts};
 
-/// The files of the words `run GRAPH TRACE`. Takes no memory.
-pub(crate) fn run_files(words: &Vec<String>) -> Option<(&str, &str)>
-    ensures { option_map files_named result ≡ run_files (texts words.now.items) }
+use yt_base::{Decimal, digits};
+
+/// A command that judges a graph.
+#[derive(Clone, Copy, Debug, PartialEq, Eq)]
+pub(crate) enum Command {
+    /// The graph's canonical text.
+    Form,
+    /// The graph's tasks.
+    Tasks,
+    /// Whether the graph fits.
+    Check,
+    /// The run of the graph on a trace.
+    Run,
+    /// The variables of the graph at a tick of a run.
+    Stop,
+}
+
+/// What words ask for.
+#[derive(Clone, Copy)]
+pub(crate) enum Plan<'a> {
+    /// Nothing: they are no listed form.
+    Misuse,
+    /// A command that isn't built yet.
+    Later,
+    /// A command that judges the files of these names, the graph's first.
+    Judges(Command, &'a [String]),
+}
+
+/// What the words ask for. Takes no memory.
+pub(crate) fn plan_of(words: &[String]) -> Plan<'_>
+    ensures { plan_found result ≡ plan_of (texts words.now) }
 {
-    match words.as_slice() {
-        [command, graph, trace]
-            if command.as_str() == "run" && is_file(graph.as_str()) && is_file(trace.as_str()) => {
-            Some((graph.as_str(), trace.as_str()))
-        }
-        _ => None,
+    match words {
+        [command, rest @ ..] => plan_of_command(command.as_str(), rest),
+        [] => Plan::Misuse,
+    }
+}
+
+/// What a command asks for, by the words behind it.
+fn plan_of_command<'a>(command: &str, rest: &'a [String]) -> Plan<'a>
+    ensures { plan_found result ≡ plan_of (command.now ∷ texts rest.now) }
+{
+    match rest {
+        [word] => plan_of_one(command, word.as_str(), rest),
+        [first, second] => plan_of_two(command, first.as_str(), second.as_str(), rest),
+        [graph, trace, tick]
+            if command == "stop"
+                && is_file(graph.as_str())
+                && is_file(trace.as_str())
+                && is_count(tick.as_str()) => Plan::Judges(Command::Stop, &rest[..2]),
+        _ => Plan::Misuse,
+    }
+}
+
+/// What a command asks for with one word.
+fn plan_of_one<'a>(command: &str, word: &str, files: &'a [String]) -> Plan<'a>
+    requires { texts files.now ≡ word.now ∷ [] }
+    ensures { plan_found result ≡ plan_of (command.now ∷ word.now ∷ []) }
+{
+    let is_file = is_file(word);
+    if command == "form" && is_file {
+        Plan::Judges(Command::Form, files)
+    } else if command == "tasks" && is_file {
+        Plan::Judges(Command::Tasks, files)
+    } else if command == "check" && is_file {
+        Plan::Judges(Command::Check, files)
+    } else if (command == "set" || command == "replay") && is_file {
+        Plan::Later
+    } else if command == "demo" && is_demo_count(word) {
+        Plan::Later
+    } else {
+        Plan::Misuse
+    }
+}
+
+/// What a command asks for with two words.
+fn plan_of_two<'a>(command: &str, first: &str, second: &str, files: &'a [String]) -> Plan<'a>
+    requires { texts files.now ≡ first.now ∷ second.now ∷ [] }
+    ensures { plan_found result ≡ plan_of (command.now ∷ first.now ∷ second.now ∷ []) }
+{
+    let are_files = is_file(first) && is_file(second);
+    if command == "run" && are_files {
+        Plan::Judges(Command::Run, files)
+    } else if command == "play" && are_files {
+        Plan::Later
+    } else {
+        Plan::Misuse
     }
 }
 
@@ -20,4 +99,117 @@ fn is_file(word: &str) -> bool
     ensures { result ≡ names_file word.now }
 {
     !word.as_bytes().starts_with(b"-")
+}
+
+/// Whether a word is a count: one to eight decimal digits.
+fn is_count(word: &str) -> bool
+    ensures { result ≡ is_count word.now }
+{
+    let word = word.as_bytes();
+    !word.is_empty() && word.len() <= 8 && are_digits(word)
+}
+
+/// Whether a word is a count from 1 to 16.
+fn is_demo_count(word: &str) -> bool
+    ensures { result ≡ is_demo_count word.now }
+{
+    is_count(word) && matches!(digits(word.as_bytes()), Decimal::Value(1..=16))
+}
+
+/// Whether each byte is a decimal digit.
+fn are_digits(word: &[u8]) -> bool
+    ensures { result ≡ list_all is_digit word.now }
+{
+    word.iter().all(|b| is_digit(*b))
+}
+
+/// Whether a byte is a decimal digit.
+fn is_digit(b: u8) -> bool
+    ensures { result ≡ is_digit b }
+{
+    b.is_ascii_digit()
+}
+
+#[cfg(test)]
+mod tests {
+    use super::*;
+    use std::test::Fail;
+
+    /// What words ask for, with the number of files in place of their names.
+    #[derive(Clone, Copy, Debug, PartialEq, Eq)]
+    enum Asked {
+        Misuse,
+        Later,
+        Judges(Command, usize),
+    }
+
+    fn asked_by(plan: Plan) -> Asked {
+        match plan {
+            Plan::Misuse => Asked::Misuse,
+            Plan::Later => Asked::Later,
+            Plan::Judges(command, files) => Asked::Judges(command, files.len()),
+        }
+    }
+
+    /// Lines of words with one space between them: a word may be empty.
+    const LINES: [(&str, Asked); 45] = [
+        ("form g", Asked::Judges(Command::Form, 1)),
+        ("tasks g", Asked::Judges(Command::Tasks, 1)),
+        ("check g", Asked::Judges(Command::Check, 1)),
+        ("run g t", Asked::Judges(Command::Run, 2)),
+        ("stop g t 7", Asked::Judges(Command::Stop, 2)),
+        ("stop g t 12345678", Asked::Judges(Command::Stop, 2)),
+        ("stop g t 00000000", Asked::Judges(Command::Stop, 2)),
+        ("set s", Asked::Later),
+        ("play s p", Asked::Later),
+        ("replay s", Asked::Later),
+        ("demo 1", Asked::Later),
+        ("demo 16", Asked::Later),
+        ("demo 00000001", Asked::Later),
+        ("form ", Asked::Judges(Command::Form, 1)),
+        ("run  t", Asked::Judges(Command::Run, 2)),
+        ("", Asked::Misuse),
+        ("form", Asked::Misuse),
+        ("form g t", Asked::Misuse),
+        ("form -g", Asked::Misuse),
+        ("form -", Asked::Misuse),
+        ("Form g", Asked::Misuse),
+        ("forms g", Asked::Misuse),
+        ("for g", Asked::Misuse),
+        ("tasks -g", Asked::Misuse),
+        ("check g t", Asked::Misuse),
+        ("check --", Asked::Misuse),
+        ("run g", Asked::Misuse),
+        ("run g t u", Asked::Misuse),
+        ("run -g t", Asked::Misuse),
+        ("run g -t", Asked::Misuse),
+        ("stop g t", Asked::Misuse),
+        ("stop g t x", Asked::Misuse),
+        ("stop g t 1x", Asked::Misuse),
+        ("stop g t -1", Asked::Misuse),
+        ("stop g t ", Asked::Misuse),
+        ("stop g t 123456789", Asked::Misuse),
+        ("stop -g t 1", Asked::Misuse),
+        ("stop g -t 1", Asked::Misuse),
+        ("set -s", Asked::Misuse),
+        ("play s -p", Asked::Misuse),
+        ("replay s p", Asked::Misuse),
+        ("demo 0", Asked::Misuse),
+        ("demo 17", Asked::Misuse),
+        ("demo 000000001", Asked::Misuse),
+        ("--help", Asked::Misuse),
+    ];
+
+    #[test]
+    fn words_are_tested_against_all_forms(rt: HostRuntime) -> Result<(), Fail> {
+        for (line, wanted) in &LINES {
+            let mut words = Vec::new(rt.alloc());
+            for word in line.split(' ') {
+                words.push(String::from_str(rt.alloc(), word)?)?;
+            }
+            assert_eq!(rt; asked_by(plan_of(&words)), *wanted, "at {line}");
+        }
+        assert_eq!(rt; asked_by(plan_of(&[])), Asked::Misuse);
+        Ok(())
+    }
 }

@@ -2,7 +2,8 @@
 
 ghost use Rattle.std.specs.Prelude.{◌≡◌, ◌≤◌, length, option_map, option_copied};
 ghost use Rattle.std.specs.List.{list_all, prefix_len};
-ghost use Rattle.yartos.specs.FirstText.{is_letter, is_word_byte, begins_as_word, is_reserved, is_name};
+ghost use Rattle.yartos.specs.FirstText.{begins_as_word, is_name};
+ghost use Rattle.yt_lexer.specs.First.{is_letter, is_word_byte, is_reserved};
 ghost use Rattle.yartos.specs.FirstReading.{after, word_at, name_at, number_of, number_at};
 
 use yt_base::{Decimal, digits};

@@ -23,6 +23,9 @@ struct Case {
 
 const NEVER: u64 = 9;
 
+const USAGE: &str =
+    "usage: yartos form G, tasks G, check G, run G T, stop G T N, set S, play S P, replay S, demo N\n";
+
 impl Case {
     /// `run g t`, where nothing fails.
     fn run(graph: &'static str, trace: &'static str, status: Status, text: &'static str) -> Case {
@@ -119,19 +122,124 @@ fn refusals_are_told(rt: HostRuntime) -> Result<(), Fail> {
         ),
         Case::run("resource r\n", "0 tick 7\n", Status::NotYet, "notyet\n"),
         Case::run(BLINK, "0 tick 07\n", Status::NotYet, "notyet\n"),
-        Case {
-            words: &["run", "g", "-t"],
-            ..Case::run(BLINK, "", Status::NotYet, "notyet\n")
-        },
-        Case {
-            words: &[],
-            ..Case::run(BLINK, "", Status::NotYet, "notyet\n")
-        },
     ];
     for case in &cases {
         check(&rt, case)?;
     }
     Ok(())
+}
+
+#[test]
+fn words_of_no_listed_form_are_misuse(rt: HostRuntime) -> Result<(), Fail> {
+    let lists: [&'static [&'static str]; 6] = [
+        &[],
+        &["run", "g"],
+        &["run", "-g", "t"],
+        &["help"],
+        &["stop", "g", "t", "x"],
+        &["demo", "17"],
+    ];
+    for words in lists {
+        check(
+            &rt,
+            &Case {
+                words,
+                ..Case::run(BLINK, "", Status::Usage, USAGE)
+            },
+        )?;
+    }
+    Ok(())
+}
+
+#[test]
+fn words_that_wait_are_answered_without_files(rt: HostRuntime) -> Result<(), Fail> {
+    let lists: [&'static [&'static str]; 4] = [
+        &["set", "u"],
+        &["play", "u", "u"],
+        &["replay", "u"],
+        &["demo", "16"],
+    ];
+    for words in lists {
+        check(
+            &rt,
+            &Case {
+                words,
+                failing_read: 1,
+                ..Case::run(BLINK, "", Status::NotYet, "notyet\n")
+            },
+        )?;
+    }
+    Ok(())
+}
+
+/// A graph with a name that isn't declared.
+const UNDECLARED: &str = "output led from p.a.o\n";
+
+/// A graph that calls an operator, with a name that isn't declared.
+const CALL: &str =
+    "process p {\n  port a from tick () {\n    if 1 {\n    } else {\n      let x = greater(1, 2)\n    }\n  }\n}\n";
+
+/// Two ports that feed each other.
+const LOOP: &str =
+    "process p {\n  port a from q.b.o () out o(0) {\n    send o ()\n  }\n}\nprocess q {\n  port b from p.a.o () out o(0) {\n    send o ()\n  }\n}\n";
+
+#[test]
+fn graphs_are_judged_in_order(rt: HostRuntime) -> Result<(), Fail> {
+    let form: &'static [&'static str] = &["form", "g"];
+    let tasks: &'static [&'static str] = &["tasks", "g"];
+    let check_graph: &'static [&'static str] = &["check", "g"];
+    let run: &'static [&'static str] = &["run", "g", "t"];
+    let stop: &'static [&'static str] = &["stop", "g", "t", "0"];
+    for (words, graph, status, text) in [
+        (form, BLINK, Status::Done, BLINK),
+        (
+            form,
+            "input tick ( 01 )  period 10 # ten",
+            Status::Done,
+            "input tick(1) period 10\n",
+        ),
+        (form, UNDECLARED, Status::Done, UNDECLARED),
+        (form, "process", Status::Graph, "graph syntax 1 8\n"),
+        (form, "process !", Status::Graph, "graph lex 1 9 bad\n"),
+        (form, CALL, Status::NotYet, "notyet\n"),
+        (tasks, BLINK, Status::NotYet, "notyet\n"),
+        (check_graph, BLINK, Status::NotYet, "notyet\n"),
+        (stop, BLINK, Status::NotYet, "notyet\n"),
+        (check_graph, CALL, Status::NotYet, "notyet\n"),
+        (
+            tasks,
+            UNDECLARED,
+            Status::Graph,
+            "graph name 1 17 unknown\n",
+        ),
+        (run, UNDECLARED, Status::Graph, "graph name 1 17 unknown\n"),
+        (stop, UNDECLARED, Status::Graph, "graph name 1 17 unknown\n"),
+        (check_graph, LOOP, Status::Graph, "graph name 2 8 cycle\n"),
+    ] {
+        check(
+            &rt,
+            &Case {
+                words,
+                ..Case::run(graph, "", status, text)
+            },
+        )?;
+    }
+    Ok(())
+}
+
+#[test]
+fn a_graph_of_another_layout_is_run(rt: HostRuntime) -> Result<(), Fail> {
+    let graph =
+        "input tick ( 1 ) period 010 # ten\noutput led from p . a . o\nprocess p { port a from tick(v)out o(1){send o(v+1)}}";
+    check(
+        &rt,
+        &Case::run(
+            graph,
+            "0 tick 7\n",
+            Status::Done,
+            "run 0 5 p.a 1\nout 10 led 8\nend 10\n",
+        ),
+    )
 }
 
 #[test]
@@ -166,6 +274,21 @@ fn faults_are_told(rt: HostRuntime) -> Result<(), Fail> {
             words: &["check", "g"],
             failing_write: (1, 6),
             ..Case::run(BLINK, "", Status::WriteFault, "notyet")
+        },
+        Case {
+            words: &["help"],
+            failing_write: (1, 5),
+            ..Case::run(BLINK, "", Status::WriteFault, "usage")
+        },
+        Case {
+            words: &["form", "g"],
+            failing_write: (2, 6),
+            ..Case::run(
+                BLINK,
+                "",
+                Status::WriteFault,
+                "input tick(1) period 10\noutput",
+            )
         },
     ];
     for case in &cases {

@@ -1,109 +1,65 @@
-use Rattle.std.proofs.Common.{◌≡◌, None, Some, Err, refl, sym, ap, subst, ◌∙◌, inl}
-use Rattle.std.specs.Prelude.{codes, option_map}
-use Rattle.yartos.specs.declared.status.Status.TheVariants.{NotYet, Long}
-use Rattle.yt_io.specs.Sink.{AddsFront, add}
-use Rattle.yartos.specs.Answer.{IsDue, IsDueOf}
-use Rattle.yartos.specs.Words.{Files, files_named, run_files, texts}
-use Rattle.yartos.proofs.TopLemmas.{verdict_from, due_from, is_called_for, no_read_fault, long_graph_due, long_trace_due, on_err, on_ok}
+use Rattle.std.proofs.Common.{◌≡◌, Err, refl, sym, ap, subst, ◌∙◌}
+use Rattle.yt_io.specs.Faults.{Rose}
+use Rattle.yt_io.specs.Sink.{AddsFront}
+use Rattle.yartos.specs.declared.status.Status.TheVariants.{Usage, NotYet}
+use Rattle.yartos.specs.Answer.{IsDue, usage_line}
+use Rattle.yartos.specs.Words.{Plan, judges, later, misuse, plan_of, texts}
+use Rattle.std.specs.Prelude.{codes}
+use Rattle.yartos.proofs.TopLemmas.{count_for, due_for, is_called_for, no_read_fault, no_write_fault, or_no_memory, unread_for, verdict_in_files}
 use Rattle.yartos.proofs.top.yartos.Goals as goal
 
-pub returns-then-is_err-clause-front : goal.returns-then-is_err-clause-front
-returns-then-is_err-clause-front g c = λ e.
-    let none : run_files (texts c.args.words.now.items) ≡ None = sym c.run_files.ensures ∙ ap (option_map files_named) c.in_default.is in
-    (NotYet, codes "notyet\n", inl (none, refl), on_err c.write_lines.result (sym c.is_err.ensures.value ∙ c.if-is_err.true) c.write_lines.ensures.front)
+pub answer_files-requires : goal.answer_files-requires
+answer_files-requires g c = count_for (texts c.deref.result.now) (texts c.in-Judges.names.now) c.in-Judges.command c.in-Judges.ensures
 
-pub returns-in-Err-Failed-clause-complete : goal.returns-in-Err-Failed-clause-complete
-returns-in-Err-Failed-clause-complete g c = λ held due tells calls shelf sink.
-    let words = texts c.args.words.now.items in
-    let files : Files = record { graph = c.in-Some.graph.now; trace = c.in-Some.trace.now } in
-    let form : run_files words ≡ Some files = sym c.run_files.ensures ∙ ap (option_map files_named) c.in-Some.is in
+pub tell-requires-in-Ok : goal.tell-requires-in-Ok
+tell-requires-in-Ok g c =
+    record { verdict = verdict_in_files (g.S.Shelf.held c.args.shelf.now) c.in-Judges.command (texts c.in-Judges.names.now) c.in-Ok.answer.status c.in-Ok.answer.text c.in-Ok.ensures.due }
+
+pub returns-in-Misuse-clause-front : goal.returns-in-Misuse-clause-front
+returns-in-Misuse-clause-front g c = λ e.
     let told = g.S.Shelf.held c.args.shelf.now in
-    absurd (no_read_fault told held words files due (g.S.Shelf.faults c.args.shelf.now) (g.S.Shelf.faults c.read_files.new.shelf) tells form calls
-    (c.in-Err-Failed.ensures.failed (ap Err c.in-Err-Failed.field-0-is)) shelf)
-
-pub returns-then-is_err-2-clause-front : goal.returns-then-is_err-2-clause-front
-returns-then-is_err-2-clause-front g c = λ e.
     let words = texts c.args.words.now.items in
-    let files : Files = record { graph = c.in-Some.graph.now; trace = c.in-Some.trace.now } in
-    let form : run_files words ≡ Some files = sym c.run_files.ensures ∙ ap (option_map files_named) c.in-Some.is in
-    let told = g.S.Shelf.held c.args.shelf.now in (
-      Long,
-      codes "long file 1\n",
-      long_graph_due told words files form (c.in-Err-LongGraph.ensures.long_graph (ap Err c.in-Err-LongGraph.field-0-is)),
-      on_err c.write_lines-in-Err-LongGraph.result (sym c.is_err-in-Err-LongGraph.ensures.value ∙ c.if-is_err-2.true) c.write_lines-in-Err-LongGraph.ensures.front,
-    )
+    let form : misuse ≡ plan_of words = c.in-Misuse.ensures ∙ ap (λ ws. plan_of (texts ws)) c.deref.ensures.value in
+    (Usage, usage_line, due_for told misuse (plan_of words) Usage usage_line form (refl, refl), c.tell.ensures.front e)
 
-pub returns-in-Err-LongGraph-clause-complete : goal.returns-in-Err-LongGraph-clause-complete
-returns-in-Err-LongGraph-clause-complete g c = λ held due tells calls shelf sink.
-    let words = texts c.args.words.now.items in
-    let files : Files = record { graph = c.in-Some.graph.now; trace = c.in-Some.trace.now } in
-    let form : run_files words ≡ Some files = sym c.run_files.ensures ∙ ap (option_map files_named) c.in-Some.is in
+pub returns-in-Later-clause-front : goal.returns-in-Later-clause-front
+returns-in-Later-clause-front g c = λ e.
     let told = g.S.Shelf.held c.args.shelf.now in
-    is_called_for told held words Long due (codes "long file 1\n") tells (long_graph_due told words files form (c.in-Err-LongGraph.ensures.long_graph (ap Err c.in-Err-LongGraph.field-0-is))) calls
-
-pub returns-then-is_err-3-clause-front : goal.returns-then-is_err-3-clause-front
-returns-then-is_err-3-clause-front g c = λ e.
     let words = texts c.args.words.now.items in
-    let files : Files = record { graph = c.in-Some.graph.now; trace = c.in-Some.trace.now } in
-    let form : run_files words ≡ Some files = sym c.run_files.ensures ∙ ap (option_map files_named) c.in-Some.is in
-    let told = g.S.Shelf.held c.args.shelf.now in (
-      Long,
-      codes "long file 2\n",
-      (let both = c.in-Err-LongTrace.ensures.long_trace (ap Err c.in-Err-LongTrace.field-0-is) in long_trace_due told words files form both.0 both.1),
-      on_err c.write_lines-in-Err-LongTrace.result (sym c.is_err-in-Err-LongTrace.ensures.value ∙ c.if-is_err-3.true) c.write_lines-in-Err-LongTrace.ensures.front,
-    )
+    let form : later ≡ plan_of words = c.in-Later.ensures ∙ ap (λ ws. plan_of (texts ws)) c.deref.ensures.value in
+    (NotYet, codes "notyet\n", due_for told later (plan_of words) NotYet (codes "notyet\n") form (refl, refl), c.tell-in-Later.ensures.front e)
 
-pub returns-in-Err-LongTrace-clause-complete : goal.returns-in-Err-LongTrace-clause-complete
-returns-in-Err-LongTrace-clause-complete g c = λ held due tells calls shelf sink.
-    let words = texts c.args.words.now.items in
-    let files : Files = record { graph = c.in-Some.graph.now; trace = c.in-Some.trace.now } in
-    let form : run_files words ≡ Some files = sym c.run_files.ensures ∙ ap (option_map files_named) c.in-Some.is in
+pub returns-in-Ok-clause-front : goal.returns-in-Ok-clause-front
+returns-in-Ok-clause-front g c = λ e.
     let told = g.S.Shelf.held c.args.shelf.now in
-    is_called_for told held words Long due (codes "long file 2\n") tells (let both = c.in-Err-LongTrace.ensures.long_trace (ap Err c.in-Err-LongTrace.field-0-is) in long_trace_due told words files form both.0 both.1) calls
-
-pub returns-then-is_err-4-clause-front : goal.returns-then-is_err-4-clause-front
-returns-then-is_err-4-clause-front g c = λ e.
     let words = texts c.args.words.now.items in
-    let files : Files = record { graph = c.in-Some.graph.now; trace = c.in-Some.trace.now } in
-    let form : run_files words ≡ Some files = sym c.run_files.ensures ∙ ap (option_map files_named) c.in-Some.is in
-    let told = g.S.Shelf.held c.args.shelf.now in
-    let status = c.in-Ok-judge.answer.status in
-    let text = c.in-Ok-judge.answer.text in
-    let graph = c.in-Ok.contents.graph.items in
-    let trace = c.in-Ok.contents.trace.items in
-    let of_traces : IsDueOf c.deref.result.now trace status text = subst (λ x. IsDueOf c.deref.result.now x status text) c.deref-2.ensures.value c.in-Ok-judge.ensures in
-    let of_files : IsDueOf graph trace status text = subst (λ x. IsDueOf x trace status text) c.deref.ensures.value of_traces in
-    let verdict : IsDue told words status text = due_from told words files graph trace status text form c.in-Ok.ensures.graph c.in-Ok.ensures.trace of_files in
-    let front = on_err c.write_lines-2.result (sym c.is_err-2.ensures.value ∙ c.if-is_err-4.true) c.write_lines-2.ensures.front in
-    (status, text, verdict, subst (λ x. AddsFront (g.K.Sink.written c.args.out.now) (g.K.Sink.written c.write_lines-2.new.out) x) c.as_slice.ensures front)
+    let plan = judges c.in-Judges.command (texts c.in-Judges.names.now) in
+    let form : plan ≡ plan_of words = c.in-Judges.ensures ∙ ap (λ ws. plan_of (texts ws)) c.deref.ensures.value in
+    let status = c.in-Ok.answer.status in
+    let text = c.in-Ok.answer.text in
+    let front = subst (λ x. AddsFront (g.K.Sink.written c.args.out.now) (g.K.Sink.written c.tell-in-Ok.new.out) x) c.as_slice.ensures (c.tell-in-Ok.ensures.front e) in
+    (status, text, due_for told plan (plan_of words) status text form c.in-Ok.ensures.due, front)
 
-pub returns-clause-verdict : goal.returns-clause-verdict
-returns-clause-verdict g c =
-    let words = texts c.args.words.now.items in
-    let files : Files = record { graph = c.in-Some.graph.now; trace = c.in-Some.trace.now } in
-    let form : run_files words ≡ Some files = sym c.run_files.ensures ∙ ap (option_map files_named) c.in-Some.is in
+pub returns-in-Ok-clause-complete : goal.returns-in-Ok-clause-complete
+returns-in-Ok-clause-complete g c = λ held due tells calls shelf sink.
     let told = g.S.Shelf.held c.args.shelf.now in
-    let status = c.in-Ok-judge.answer.status in
-    let text = c.in-Ok-judge.answer.text in
-    let graph = c.in-Ok.contents.graph.items in
-    let trace = c.in-Ok.contents.trace.items in
-    let of_traces : IsDueOf c.deref.result.now trace status text = subst (λ x. IsDueOf c.deref.result.now x status text) c.deref-2.ensures.value c.in-Ok-judge.ensures in
-    let of_files : IsDueOf graph trace status text = subst (λ x. IsDueOf x trace status text) c.deref.ensures.value of_traces in
-    let verdict : IsDue told words status text = due_from told words files graph trace status text form c.in-Ok.ensures.graph c.in-Ok.ensures.trace of_files in
-    let written = on_ok c.write_lines-2.result (sym c.is_err-2.ensures.value ∙ c.if-is_err-4.false) c.write_lines-2.ensures.ok in
-    verdict_from status (text, verdict, subst (λ x. g.K.Sink.written c.write_lines-2.new.out ≡ add (g.K.Sink.written c.args.out.now) x) c.as_slice.ensures written)
+    let words = texts c.args.words.now.items in
+    let plan = judges c.in-Judges.command (texts c.in-Judges.names.now) in
+    let form : plan ≡ plan_of words = c.in-Judges.ensures ∙ ap (λ ws. plan_of (texts ws)) c.deref.ensures.value in
+    let status = c.in-Ok.answer.status in
+    let text = c.in-Ok.answer.text in
+    let result = c.tell-in-Ok.result in
+    let kept : result ≡ status = no_write_fault result status (g.K.Sink.faults c.args.out.now) (g.K.Sink.faults c.tell-in-Ok.new.out) c.tell-in-Ok.ensures.told c.tell-in-Ok.ensures.failed sink in
+    let is = due_for told plan (plan_of words) status text form c.in-Ok.ensures.due in
+    or_no_memory result due (kept ∙ is_called_for told held (plan_of words) status due text tells is calls)
 
-pub returns-clause-complete : goal.returns-clause-complete
-returns-clause-complete g c = λ held due tells calls shelf sink.
-    let words = texts c.args.words.now.items in
-    let files : Files = record { graph = c.in-Some.graph.now; trace = c.in-Some.trace.now } in
-    let form : run_files words ≡ Some files = sym c.run_files.ensures ∙ ap (option_map files_named) c.in-Some.is in
+pub returns-in-Err-NotRead-clause-complete : goal.returns-in-Err-NotRead-clause-complete
+returns-in-Err-NotRead-clause-complete g c = λ held due tells calls shelf sink.
     let told = g.S.Shelf.held c.args.shelf.now in
-    let status = c.in-Ok-judge.answer.status in
-    let text = c.in-Ok-judge.answer.text in
-    let graph = c.in-Ok.contents.graph.items in
-    let trace = c.in-Ok.contents.trace.items in
-    let of_traces : IsDueOf c.deref.result.now trace status text = subst (λ x. IsDueOf c.deref.result.now x status text) c.deref-2.ensures.value c.in-Ok-judge.ensures in
-    let of_files : IsDueOf graph trace status text = subst (λ x. IsDueOf x trace status text) c.deref.ensures.value of_traces in
-    let verdict : IsDue told words status text = due_from told words files graph trace status text form c.in-Ok.ensures.graph c.in-Ok.ensures.trace of_files in
-    is_called_for told held words status due text tells verdict calls
+    let words = texts c.args.words.now.items in
+    let plan = judges c.in-Judges.command (texts c.in-Judges.names.now) in
+    let form : plan ≡ plan_of words = c.in-Judges.ensures ∙ ap (λ ws. plan_of (texts ws)) c.deref.ensures.value in
+    let old = g.S.Shelf.faults c.args.shelf.now in
+    let new = g.S.Shelf.faults c.answer_files.new.shelf in
+    let failed = unread_for told plan (plan_of words) (Rose old new) form (c.in-Err-NotRead.ensures.not_read (ap Err c.in-Err-NotRead.field-0-is)) in
+    absurd (no_read_fault told held (plan_of words) due old new tells calls failed shelf)

@@ -4,9 +4,11 @@ use Rattle.yt_graph.specs.Picture.{graph_tree}
 use Rattle.yt_run.specs.Serial.{period_of}
 use Rattle.yartos.specs.FirstParts.{parts_of}
 use Rattle.yartos.specs.TraceText.{fault_in}
-use Rattle.yartos.proofs.AnswerLemmas.{overload_due, fits_due, no_trace_due, not_yet_due, readable_names, run_due}
+use Rattle.yartos.specs.RunAnswer.{IsRunDue}
+use Rattle.yartos.proofs.Judged.{not_yet_due}
+use Rattle.yartos.proofs.RunLemmas.{overload_due, fits_due, no_trace_due, readable_names, run_due}
 use Rattle.yartos.proofs.TracePeriod.{few_messages, times_fit, keeps_period}
-use Rattle.yartos.proofs.answer.judge.Goals as goal
+use Rattle.yartos.proofs.run_answer.judge_run.Goals as goal
 
 pub returns-then-first_cost-first_period : goal.returns-then-first_cost-first_period
 returns-then-first_cost-first_period c =
@@ -18,7 +20,7 @@ returns-in_default-2 c =
     let fits = fits_due (parts_of c.in-Some.parts) (graph_tree c.in_ok-graph.graph) c.first_cost.result c.first_period.result
     c.in_ok-graph.ensures c.first_cost.ensures.cost c.first_period.ensures.period c.if-first_cost-first_period.false in
     let none = rw c.in_default-2.is at c.in_ok-messages.ensures in
-    not_yet_due (λ a. a.status) (λ a. a.text) c.args.graph.now c.args.trace.now c.not_yet-in_default-2.result c.not_yet-in_default-2.ensures.status c.not_yet-in_default-2.ensures.text
+    not_yet_due (λ a. a.status) (λ a. a.text) (IsRunDue c.args.graph.now c.args.trace.now) c.not_yet-in_default-2.result c.not_yet-in_default-2.ensures.status c.not_yet-in_default-2.ensures.text
     (no_trace_due c.args.graph.now c.args.trace.now (parts_of c.in-Some.parts) c.in-Some.parts.param.now c.in-Some.ensures.some fits none)
 
 pub first_fault-requires-clause-few : goal.first_fault-requires-clause-few

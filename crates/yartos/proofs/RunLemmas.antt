@@ -1,7 +1,7 @@
--- What is due to a graph and a trace, from what their parts are.
+-- What is due to a run, from what the parts of the graph and the trace are.
 use Rattle.std.proofs.Common.{◌≡◌, ℕ, ◌+◌, ◌*◌, ◌<◌, ◌≤◌, true, false, List, [], ◌∷◌, length, None, refl, sym, ap, subst, ◌∙◌, inr, ⊎_elim, eqb, not, nat_le, arith}
 use Rattle.std.proofs.lemmas.Bool.{cases_Bool, both_ways, eqb-true, and_parts, and_from}
-use Rattle.std.specs.Prelude.{IsTrue, codes, ◌&&◌, Result, Ok, Err, IfOk}
+use Rattle.std.specs.Prelude.{IsTrue, codes, ◌&&◌}
 use Rattle.std.specs.List.{list_all}
 use Rattle.yt_graph.specs.Picture.{GraphTree}
 use Rattle.yt_graph.specs.Cost.{greatest_cost}
@@ -21,8 +21,9 @@ use Rattle.yt_run.proofs.Pieces.{list_all-weaker}
 use Rattle.yt_run.proofs.ReadBackFirst.{HasReadableNames-first}
 use Rattle.yartos.specs.declared.status.Status.{Status}
 use Rattle.yartos.specs.declared.status.Status.TheVariants.{NotYet}
-use Rattle.yartos.specs.Answer.{IsDueOf, IsOverload, IsRun}
-use Rattle.yartos.specs.FirstText.{IsFirstText, begins_as_word, is_name, is_reserved, is_word_byte}
+use Rattle.yartos.specs.RunAnswer.{IsRunDue, IsOverload, IsRun}
+use Rattle.yartos.specs.FirstText.{IsFirstText, begins_as_word, is_name}
+use Rattle.yt_lexer.specs.First.{is_reserved, is_word_byte}
 use Rattle.yartos.specs.OverloadText.{overload_text}
 use Rattle.yartos.specs.TraceText.{IsTraceText, fault_in}
 
@@ -53,7 +54,7 @@ fits_due d graph cost period is cost_is period_is least =
     omega arith
 
 pub no_trace_due : (graph_bytes trace_bytes : List ℕ) (d : First) (param : List ℕ) → IsFirstText graph_bytes d param → FitsFirst (graph_of d) →
-    ((messages : List Message) → IsTraceText trace_bytes d.input messages → ⊥) → IsDueOf graph_bytes trace_bytes NotYet (codes "notyet\n")
+    ((messages : List Message) → IsTraceText trace_bytes d.input messages → ⊥) → IsRunDue graph_bytes trace_bytes NotYet (codes "notyet\n")
 no_trace_due graph_bytes trace_bytes d param spelled fits none = (inr (record { parts = d; param = param; spelled = spelled; fits = fits; none = none }), refl)
 
 -- a byte of a word is none that is no such byte
@@ -99,9 +100,3 @@ run_due graph_bytes trace_bytes text d param graph messages log lines spelled is
       printed = printed_here;
       promised = subst (λ g. IsPromisedRun g messages log lines) is promised;
     }
-
--- an answer that isn't built yet, where it is due
-pub not_yet_due : {A E : Type 0} (status : A → Status) (text : A → List ℕ) (graph trace : List ℕ) (r : Result A E) → IfOk r (λ a. status a ≡ NotYet) → IfOk r (λ a. text a ≡ codes "notyet\n") →
-    IsDueOf graph trace NotYet (codes "notyet\n") → IfOk r (λ a. IsDueOf graph trace (status a) (text a))
-not_yet_due status text graph trace (Ok a) s t due = subst (λ x. IsDueOf graph trace x (text a)) (sym s) (subst (λ x. IsDueOf graph trace NotYet x) (sym t) due)
-not_yet_due status text graph trace (Err e) s t due = tt

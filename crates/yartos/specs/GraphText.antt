@@ -1,0 +1,75 @@
+-- The text of a graph: its tree, or the line of its first fault.
+use Rattle.std.specs.Prelude.{◌≡◌, ℕ, List, [], ◌∷◌, ◌++◌, Option, None, codes}
+use Rattle.std.specs.Fmt.{decimal}
+use Rattle.yt_graph.specs.declared.place.Place.{Place}
+use Rattle.yt_graph.specs.AstPicture.{ItemTree, ast_tree}
+use Rattle.yt_lexer.specs.declared.token.Token.{Token}
+use Rattle.yt_lexer.specs.declared.token.LexFault as lex
+use Rattle.yt_lexer.specs.declared.token.LexFault.{LexFault}
+use Rattle.yt_lexer.specs.Lexes.{Lexes, IsFirstFault}
+use Rattle.yt_names.specs.declared.fault.LimitKind as limit
+use Rattle.yt_names.specs.declared.fault.LimitKind.{LimitKind}
+use Rattle.yt_names.specs.declared.fault.NameFault as name
+use Rattle.yt_names.specs.declared.fault.NameFault.{NameFault}
+use Rattle.yt_parser.specs.Grammar.{Spells}
+use Rattle.yt_parser.specs.Lexemes.{toks_of}
+use Rattle.yt_parser.specs.Parses.{IsSyntaxFault}
+use Rattle.yartos.specs.declared.graph_text.GraphRead.{GraphRead}
+use Rattle.yartos.specs.declared.graph_text.GraphRead.TheVariants.{Tree, Refused}
+
+-- a line about a place: what comes before the line and the column, and what comes behind
+abbrev pub placed_line : List ℕ → Place → List ℕ → List ℕ
+placed_line front p back = front ++ (32 ∷ decimal p.line ++ (32 ∷ decimal p.col ++ back))
+
+-- the text is the line of a fault of tokens; want of memory has none
+abbrev pub IsLexLine : List ℕ → LexFault → Type 0
+IsLexLine text (lex.TheVariants.BadByte p) = text ≡ placed_line (codes "graph lex") p (codes " bad\n")
+IsLexLine text (lex.TheVariants.LongName p) = text ≡ placed_line (codes "graph lex") p (codes " long\n")
+IsLexLine text (lex.TheVariants.BigNumber p) = text ≡ placed_line (codes "graph lex") p (codes " big\n")
+IsLexLine text lex.TheVariants.Memory = ⊥
+
+-- the line of a fault of syntax
+abbrev pub syntax_line : Place → List ℕ
+syntax_line p = placed_line (codes "graph syntax") p (codes "\n")
+
+-- what there is too much of, behind a place
+abbrev pub limit_end : LimitKind → List ℕ
+limit_end limit.TheVariants.Inputs = codes " inputs\n"
+limit_end limit.TheVariants.Outputs = codes " outputs\n"
+limit_end limit.TheVariants.Resources = codes " resources\n"
+limit_end limit.TheVariants.Processes = codes " processes\n"
+limit_end limit.TheVariants.Ports = codes " ports\n"
+limit_end limit.TheVariants.Variables = codes " variables\n"
+limit_end limit.TheVariants.Outs = codes " outs\n"
+limit_end limit.TheVariants.Locals = codes " locals\n"
+limit_end limit.TheVariants.Width = codes " width\n"
+limit_end limit.TheVariants.Period = codes " period\n"
+limit_end limit.TheVariants.Every = codes " every\n"
+limit_end limit.TheVariants.Turns = codes " turns\n"
+
+-- the text is the line of a fault of names; want of memory has none
+abbrev pub IsNameLine : List ℕ → NameFault → Type 0
+IsNameLine text (name.TheVariants.Unknown p) = text ≡ placed_line (codes "graph name") p (codes " unknown\n")
+IsNameLine text (name.TheVariants.Kind p) = text ≡ placed_line (codes "graph name") p (codes " kind\n")
+IsNameLine text (name.TheVariants.Twice p) = text ≡ placed_line (codes "graph name") p (codes " twice\n")
+IsNameLine text (name.TheVariants.Width p) = text ≡ placed_line (codes "graph name") p (codes " width\n")
+IsNameLine text (name.TheVariants.Limit p kind) = text ≡ placed_line (codes "graph limit") p (limit_end kind)
+IsNameLine text (name.TheVariants.Cycle p) = text ≡ placed_line (codes "graph name") p (codes " cycle\n")
+IsNameLine text name.TheVariants.Memory = ⊥
+
+-- the tree that a graph's text spells
+pub record IsTreeOf (graph : List ℕ) (items : List ItemTree) : Type 0 where
+  pub tokens : List Token
+  pub lexed : Lexes graph 0 tokens None
+  pub spelled : Spells (toks_of graph tokens) items
+
+-- a graph's text spells no tree: this is the line of its first fault, of tokens or, where there is none, of syntax
+pub data IsRefusedText (graph text : List ℕ) : Type 0 where
+  not_lexed : (fault : LexFault) → IsFirstFault graph fault → IsLexLine text fault → IsRefusedText graph text
+  not_spelled : (tokens : List Token) (place : Place) → Lexes graph 0 tokens None → IsSyntaxFault graph (toks_of graph tokens) place → text ≡ syntax_line place →
+      IsRefusedText graph text
+
+-- what was read is the graph's tree, or the line of its first fault
+abbrev pub IsReadOf : List ℕ → GraphRead → Type 0
+IsReadOf graph (Tree ast) = IsTreeOf graph (ast_tree ast)
+IsReadOf graph (Refused line) = IsRefusedText graph line

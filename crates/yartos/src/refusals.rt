@@ -1,0 +1,75 @@
+//! The lines of a graph's faults.
+ghost use Rattle.std.specs.Prelude.{◌≡◌, IfOk};
+ghost use Rattle.yartos.specs.GraphText.{IsLexLine, IsNameLine, limit_end, placed_line, syntax_line};
+
+use crate::text::Text;
+use std::alloc::{AllocError, Global};
+use yt_graph::Place;
+use yt_lexer::LexFault;
+use yt_names::{LimitKind, NameFault};
+
+/// The line of a fault of tokens. `Err` comes where memory ran out, as `Memory` says.
+pub(crate) fn lex_line(alloc: Global, fault: LexFault) -> Result<Text, AllocError>
+    ensures { IfOk result (λ line. IsLexLine line fault) }
+{
+    match fault {
+        LexFault::BadByte(place) => placed_line(alloc, b"graph lex", place, b" bad\n"),
+        LexFault::LongName(place) => placed_line(alloc, b"graph lex", place, b" long\n"),
+        LexFault::BigNumber(place) => placed_line(alloc, b"graph lex", place, b" big\n"),
+        LexFault::Memory => Err(AllocError),
+    }
+}
+
+/// The line of a fault of syntax. `Err` comes where memory ran out.
+pub(crate) fn syntax_line(alloc: Global, place: Place) -> Result<Text, AllocError>
+    ensures { IfOk result (λ line. line ≡ syntax_line place) }
+{
+    placed_line(alloc, b"graph syntax", place, b"\n")
+}
+
+/// The line of a fault of names. `Err` comes where memory ran out, as `Memory` says.
+pub(crate) fn name_line(alloc: Global, fault: NameFault) -> Result<Text, AllocError>
+    ensures { IfOk result (λ line. IsNameLine line fault) }
+{
+    match fault {
+        NameFault::Unknown(place) => placed_line(alloc, b"graph name", place, b" unknown\n"),
+        NameFault::Kind(place) => placed_line(alloc, b"graph name", place, b" kind\n"),
+        NameFault::Twice(place) => placed_line(alloc, b"graph name", place, b" twice\n"),
+        NameFault::Width(place) => placed_line(alloc, b"graph name", place, b" width\n"),
+        NameFault::Limit(place, kind) => placed_line(alloc, b"graph limit", place, limit_end(kind)),
+        NameFault::Cycle(place) => placed_line(alloc, b"graph name", place, b" cycle\n"),
+        NameFault::Memory => Err(AllocError),
+    }
+}
+
+/// What there is too much of, behind a place.
+fn limit_end(kind: LimitKind) -> &'static [u8]
+    ensures { result.now ≡ limit_end kind }
+{
+    match kind {
+        LimitKind::Inputs => b" inputs\n",
+        LimitKind::Outputs => b" outputs\n",
+        LimitKind::Resources => b" resources\n",
+        LimitKind::Processes => b" processes\n",
+        LimitKind::Ports => b" ports\n",
+        LimitKind::Variables => b" variables\n",
+        LimitKind::Outs => b" outs\n",
+        LimitKind::Locals => b" locals\n",
+        LimitKind::Width => b" width\n",
+        LimitKind::Period => b" period\n",
+        LimitKind::Every => b" every\n",
+        LimitKind::Turns => b" turns\n",
+    }
+}
+
+/// A line about a place: what comes before the line and the column, and what comes behind.
+fn placed_line(alloc: Global, front: &[u8], place: Place, back: &[u8]) -> Result<Text, AllocError>
+    ensures { IfOk result (λ line. line ≡ placed_line front.now place back.now) }
+{
+    let mut line = Text::new(alloc);
+    line.put(front)?;
+    line.put_field(u64::from(place.line))?;
+    line.put_field(u64::from(place.col))?;
+    line.put(back)?;
+    Ok(line)
+}
