@@ -1,0 +1,6 @@
+mod Examples
+pub mod Exprs
+pub mod Forget
+pub mod Ports
+pub mod Turns
+pub mod WellFormed

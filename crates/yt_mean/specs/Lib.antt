@@ -1,0 +1,4 @@
+pub mod Arithmetic
+pub mod Handled
+pub mod Progress
+pub mod Within
