@@ -1,0 +1,4 @@
+mod Examples
+pub mod Shapes
+pub mod Ready
+mod Tops

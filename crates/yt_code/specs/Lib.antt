@@ -1,0 +1,5 @@
+pub mod Step
+pub mod Valid
+pub mod Ready
+pub mod Outbox
+pub mod Needs
