@@ -1,0 +1,13 @@
+pub mod CodeFits
+pub mod CodePlaces
+pub mod CodeGoes
+pub mod CodeLogs
+pub mod CodeMeans
+pub mod CodeShapes
+pub mod CodeValid
+pub mod CodeUses
+pub mod CodeShort
+pub mod CodeMade
+pub mod CodeKeeps
+pub mod Examples
+pub mod CodeOwn

@@ -1,0 +1,5 @@
+pub mod CodeSizes
+pub mod Code
+pub mod CodeFit
+pub mod CodeAlone
+pub mod CodeVars
