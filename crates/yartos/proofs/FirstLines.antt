@@ -3,7 +3,7 @@ use Rattle.std.proofs.Common.{◌≡◌, ℕ, List, ◌++◌, true, Some, refl, 
 use Rattle.std.specs.Prelude.{codes}
 use Rattle.std.specs.Fmt.{decimal}
 use Rattle.std.proofs.lemmas.Option.{same_Some, option_and_then_some}
-use Rattle.yartos.specs.FirstText.{is_name}
+use Rattle.yt_graph.specs.Names.{is_name}
 use Rattle.yartos.specs.FirstReading.{InputParts, OutputParts, after, name_at, period_at, input_line_at, output_line_at, process_line_at, port_line_at, send_at}
 use Rattle.yartos.proofs.FirstPieces.{IsPeriod, after_takes, after_again, name_takes, name_again, period_takes, period_again}
 

@@ -16,8 +16,7 @@ use Rattle.yt_base.specs.Digits.{value_after, value_of, is_digits, digits_of_tex
 use Rattle.yt_base.specs.declared.numbers.Decimal.{Decimal}
 use Rattle.yt_base.specs.declared.numbers.Decimal.TheVariants.{Value, Over, Other}
 use Rattle.yt_base.proofs.Decimals.{decimal_passes, digits_of_text-decimal}
-use Rattle.yartos.specs.FirstText.{begins_as_word, is_name}
-use Rattle.yt_lexer.specs.First.{is_word_byte}
+use Rattle.yt_graph.specs.Names.{begins_as_word, is_name, is_word_byte}
 use Rattle.yartos.specs.FirstReading.{after, word_at, name_at, value_in, number_of, number_at, period_at}
 
 -- ---- a given front

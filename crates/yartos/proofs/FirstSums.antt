@@ -9,8 +9,8 @@ use Rattle.std.proofs.lemmas.Option.{same_Some, option_and_then_some, cond_some}
 use Rattle.std.proofs.lemmas.Slice.Eq.{bytes_eq-Decides}
 use Rattle.yt_base.proofs.Decimals.{decimal_passes}
 use Rattle.yt_run.specs.First.{Operand, the_message, the_number, IsSmallOperand, AreSmallOperands}
-use Rattle.yartos.specs.FirstText.{begins_as_word, is_name, operand_text, more_operands}
-use Rattle.yt_lexer.specs.First.{is_letter, is_word_byte}
+use Rattle.yt_graph.specs.Names.{begins_as_word, is_name, is_letter, is_word_byte}
+use Rattle.yartos.specs.FirstText.{operand_text, more_operands}
 use Rattle.yartos.specs.FirstReading.{◌>>=◌, after, word_at, number_of, operand_of_word, operand_at, more_operands_at}
 use Rattle.yartos.proofs.FirstPieces.{Stops, after_takes, after_again, word_takes, word_again, name_word, value_takes, value_again, decimal_word}
 

@@ -4,14 +4,15 @@ use Rattle.std.specs.Prelude.{codes, bytes_eq}
 use Rattle.std.proofs.lemmas.Option.{option_and_then_some, cond_some, some_pair_parts}
 use Rattle.std.proofs.lemmas.Slice.Eq.{bytes_eq-Decides}
 use Rattle.yt_run.specs.First.{First, IsInRange}
-use Rattle.yartos.specs.FirstText.{is_name, operand_text, more_operands, first_text, IsFirstText}
+use Rattle.yt_graph.specs.Names.{is_name}
+use Rattle.yartos.specs.FirstText.{operand_text, more_operands, first_text, IsFirstText}
 use Rattle.yartos.specs.FirstParts.{HasDistinctNames}
 use Rattle.yartos.specs.FirstReading.{InputParts, OutputParts, after, input_line_at, output_line_at, process_line_at, port_line_at, send_at, operand_at, more_operands_at, first_parts}
 use Rattle.yartos.proofs.FirstLines.{input_line_takes, input_line_again, output_line_takes, output_line_again, process_line_takes, process_line_again, port_line_takes, port_line_again, send_takes, send_again}
 use Rattle.yartos.proofs.FirstSums.{EndsOperands, more_stops, operand_takes, operand_again, more_operands_takes, more_operands_again}
 
 -- the text is that of these parts, whose names may be equal
-pub record Spells (text : List ℕ) (d : First) (param : List ℕ) : Type 0 where
+pub record SpellsParts (text : List ℕ) (d : First) (param : List ℕ) : Type 0 where
   pub spelled : text ≡ first_text d param
   pub in_range : IsInRange d
   pub input : is_name d.input ≡ true
@@ -26,7 +27,7 @@ end_ends : EndsOperands (codes ")\n  }\n}\n")
 unfolding after
 end_ends = record { stops = refl; no_plus = refl }
 
-pub parts_takes : (text : List ℕ) (r : First × List ℕ) → first_parts text ≡ Some r → Spells text r.0 r.1
+pub parts_takes : (text : List ℕ) (r : First × List ℕ) → first_parts text ≡ Some r → SpellsParts text r.0 r.1
 unfolding first_parts
 parts_takes text r read =
     option_and_then_some _ (input_line_at text) r read (λ input is_input read.
@@ -50,7 +51,7 @@ parts_takes text r read =
     let e1 = at_output.spelled in
     let e2 = at_param.spelled in
     let e3 = at_others.spelled in
-    let whole : Spells text d param.0 = record {
+    let whole : SpellsParts text d param.0 = record {
       spelled = cc;
       in_range = record {
         some = at_input.period.some;
@@ -66,9 +67,9 @@ parts_takes text r read =
       out = at_output.out;
       parameter = at_param.named;
     } in
-    subst (λ (r : First × List ℕ). Spells text r.0 r.1) parts.1 whole)))))))
+    subst (λ (r : First × List ℕ). SpellsParts text r.0 r.1) parts.1 whole)))))))
 
-pub parts_again : (text : List ℕ) (d : First) (param : List ℕ) → Spells text d param → first_parts text ≡ Some (d, param)
+pub parts_again : (text : List ℕ) (d : First) (param : List ℕ) → SpellsParts text d param → first_parts text ≡ Some (d, param)
 unfolding first_parts
 parts_again text d param h =
     let input : InputParts = record { input = d.input; period = d.period } in
@@ -91,7 +92,7 @@ parts_again text d param h =
     ) refl
 
 -- a text that spells parts with other names is that of a first graph
-pub is_first_text : (text : List ℕ) (d : First) (param : List ℕ) → Spells text d param → HasDistinctNames d → IsFirstText text d param
+pub is_first_text : (text : List ℕ) (d : First) (param : List ℕ) → SpellsParts text d param → HasDistinctNames d → IsFirstText text d param
 is_first_text text d param h differ = record {
   spelled = h.spelled;
   in_range = h.in_range;
@@ -107,7 +108,7 @@ is_first_text text d param h differ = record {
 }
 
 -- and the other way round
-pub spells_first : (text : List ℕ) (d : First) (param : List ℕ) → IsFirstText text d param → Spells text d param
+pub spells_first : (text : List ℕ) (d : First) (param : List ℕ) → IsFirstText text d param → SpellsParts text d param
 spells_first text d param h = record {
   spelled = h.spelled;
   in_range = h.in_range;

@@ -1,25 +1,27 @@
 -- What is due to a command, from what its files hold.
-use Rattle.std.proofs.Common.{◌≡◌, ℕ, zero, suc, ◌+◌, ◌<◌, ◌≤◌, List, [], ◌∷◌, length, map, drop, get_or, drop-cons, Option, None, Some, true, false, Bool, refl, sym, ap, subst, ◌∙◌, arith}
+use Rattle.std.proofs.Common.{◌≡◌, ℕ, zero, suc, ◌<◌, ◌≤◌, List, [], ◌∷◌, length, drop, get_or, Option, None, Some, true, false, Bool, refl, sym, ap, subst, ◌∙◌, arith}
 use Rattle.std.specs.Prelude.{IfOk, Result, Ok, Err, All, Vec, codes, if◌then◌else◌}
 use Rattle.std.specs.declared.alloc.Global.{Global}
 use Rattle.std.proofs.lemmas.List.Elements.{All-cons, All-nil}
 use Rattle.yt_graph.specs.AstPicture.{ItemTree}
+use Rattle.yt_graph.specs.Picture.{GraphTree}
 use Rattle.yt_names.specs.declared.fault.NameFault.{NameFault}
 use Rattle.yt_names.specs.Faults.{name_faults}
 use Rattle.yt_names.specs.First.{first_fault}
+use Rattle.yt_names.specs.Resolved.{resolved}
+use Rattle.yt_cost.specs.declared.fault.CostFault.{CostFault}
+use Rattle.yt_cost.specs.Faults.{cost_fault}
 use Rattle.yt_parser.specs.CanonicalText.{canonical_text}
 use Rattle.yartos.specs.declared.words.Command.{Command}
 use Rattle.yartos.specs.declared.words.Command.TheVariants.{Form, Tasks, Check, Run, Stop}
-use Rattle.yartos.specs.declared.stage.Stage.{Stage}
-use Rattle.yartos.specs.declared.stage.Stage.TheVariants.{Operator, Prints, Misnamed, Unbuilt, Runs}
 use Rattle.yartos.specs.declared.status.Status.{Status}
 use Rattle.yartos.specs.declared.status.Status.TheVariants.{Graph, NotYet}
 use Rattle.yartos.specs.Answer.{IsDueAt, IsDueOf, refused, staged}
 use Rattle.yartos.specs.Calls.{has_call}
 use Rattle.yartos.specs.GraphText.{IsTreeOf, IsRefusedText}
-use Rattle.yartos.specs.Reads.{IsRead, AreRead, IsFirstLong, contents}
+use Rattle.yartos.specs.Reads.{AreRead, IsFirstLong, contents}
 use Rattle.yartos.specs.RunAnswer.{IsRunDue}
-use Rattle.yartos.specs.Stages.{stage_of, stage_behind}
+use Rattle.yartos.specs.Stages.{Stage, operator, prints, unbuilt, runs, behind_costs, behind_names, stage_of}
 use Rattle.yartos.specs.Words.{file_count}
 
 -- an answer that isn't built yet, where it is due
@@ -48,19 +50,26 @@ most_files Check = omega arith
 most_files Run = omega arith
 most_files Stop = omega arith
 
-behind_call : (b : Bool) (s : Stage) → (if b then Operator else s) ≡ Runs → s ≡ Runs
-behind_call true s e = let clash : Operator ≡ Runs = e in absurd cc
+behind_call : (b : Bool) (s : Stage) → (if b then operator else s) ≡ runs → s ≡ runs
+behind_call true s e = let clash : operator ≡ runs = e in absurd cc
 behind_call false s e = e
 
-no_run_behind : (fault : Option NameFault) → stage_behind Unbuilt fault ≡ Runs → ⊥
-no_run_behind None e = cc
-no_run_behind (Some fault) e = cc
+no_run_behind_costs : (graph : GraphTree) (fault : Option CostFault) → behind_costs unbuilt graph fault ≡ runs → ⊥
+no_run_behind_costs graph None e = cc
+no_run_behind_costs graph (Some fault) e = cc
+
+no_run_behind : (items : List ItemTree) (fault : Option NameFault) → behind_names unbuilt items fault ≡ runs → ⊥
+no_run_behind items None e = no_run_behind_costs (resolved items []) (cost_fault (resolved items [])) e
+no_run_behind items (Some fault) e = cc
+
+no_run : (items : List ItemTree) → (if has_call items then operator else behind_names unbuilt items (first_fault (name_faults items []))) ≡ runs → ⊥
+no_run items e = no_run_behind items (first_fault (name_faults items [])) (behind_call (has_call items) (behind_names unbuilt items (first_fault (name_faults items []))) e)
 
 -- a command that runs the graph judges a trace too
-pub runs_two : (command : Command) (items : List ItemTree) → stage_of command items ≡ Runs → file_count command ≡ 2
-runs_two Form items e = let here : Prints ≡ Runs = behind_call (has_call items) Prints e in absurd cc
-runs_two Tasks items e = absurd (no_run_behind (first_fault (name_faults items [])) (behind_call (has_call items) (stage_behind Unbuilt (first_fault (name_faults items []))) e))
-runs_two Check items e = absurd (no_run_behind (first_fault (name_faults items [])) (behind_call (has_call items) (stage_behind Unbuilt (first_fault (name_faults items []))) e))
+pub runs_two : (command : Command) (items : List ItemTree) → stage_of command items ≡ runs → file_count command ≡ 2
+runs_two Form items e = let here : prints ≡ runs = behind_call (has_call items) prints e in absurd cc
+runs_two Tasks items e = absurd (no_run items e)
+runs_two Check items e = absurd (no_run items e)
 runs_two Run items e = refl
 runs_two Stop items e = refl
 
@@ -94,12 +103,12 @@ staged_due command files first bytes items stage s text count is item tree at du
 
 -- what is due to the run of a graph's canonical text
 pub run_due_at : (command : Command) (files : List (Vec ℕ Global)) (second : Vec ℕ Global) (graph trace : List ℕ) (items : List ItemTree) (s : Status) (text : List ℕ) →
-    length files ≡ file_count command → second ≡ get_or files 1 second → trace ≡ second.items → graph ≡ canonical_text items → Runs ≡ stage_of command items →
-    IsRunDue graph trace s text → IsDueAt Runs items (contents (drop 1 files)) s text
-run_due_at command files second graph trace items s text count is item printed runs due =
-    let two : length files ≡ 2 = count ∙ runs_two command items (sym runs) in
+    length files ≡ file_count command → second ≡ get_or files 1 second → trace ≡ second.items → graph ≡ canonical_text items → runs ≡ stage_of command items →
+    IsRunDue graph trace s text → IsDueAt runs items (contents (drop 1 files)) s text
+run_due_at command files second graph trace items s text count is item printed at due =
+    let two : length files ≡ 2 = count ∙ runs_two command items (sym at) in
     let here : IsRunDue (canonical_text items) trace s text = subst (λ (g : List ℕ). IsRunDue g trace s text) printed due in
-    subst (λ (others : List (List ℕ)). IsDueAt Runs items others s text) (sym (with_second files second trace two is item)) here
+    subst (λ (others : List (List ℕ)). IsDueAt runs items others s text) (sym (with_second files second trace two is item)) here
 
 -- as many files were read as were named
 pub read_count : (told : Option (List ℕ → Option (List ℕ))) (names files : List (List ℕ)) → AreRead told names files → length files ≡ length names

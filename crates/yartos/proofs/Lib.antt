@@ -4,8 +4,10 @@ pub mod FirstLoop
 pub mod FirstPieces
 pub mod FirstSums
 pub mod FirstTexts
+pub mod ResolvedCalls
 pub mod RunLemmas
 pub mod RunVerdicts
+pub mod SentLemmas
 pub mod StageLemmas
 pub mod TopLemmas
 pub mod TraceLines

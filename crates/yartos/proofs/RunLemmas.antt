@@ -19,11 +19,11 @@ use Rattle.yt_run.specs.Told.{IsPromisedRun}
 use Rattle.yt_run.proofs.Alone.{overload_legal, overload_misses}
 use Rattle.yt_run.proofs.Pieces.{list_all-weaker}
 use Rattle.yt_run.proofs.ReadBackFirst.{HasReadableNames-first}
-use Rattle.yartos.specs.declared.status.Status.{Status}
 use Rattle.yartos.specs.declared.status.Status.TheVariants.{NotYet}
 use Rattle.yartos.specs.RunAnswer.{IsRunDue, IsOverload, IsRun}
-use Rattle.yartos.specs.FirstText.{IsFirstText, begins_as_word, is_name}
-use Rattle.yt_lexer.specs.First.{is_reserved, is_word_byte}
+use Rattle.yt_graph.specs.Names.{begins_as_word, is_name, is_word_byte}
+use Rattle.yt_graph.specs.Reserved.{is_reserved}
+use Rattle.yartos.specs.FirstText.{IsFirstText}
 use Rattle.yartos.specs.OverloadText.{overload_text}
 use Rattle.yartos.specs.TraceText.{IsTraceText, fault_in}
 

@@ -1,20 +1,18 @@
 -- The clauses of the top call, by the status.
-use Rattle.std.proofs.Common.{◌≡◌, ℕ, ◌<◌, List, length, Option, Some, sym, subst, ◌⊎◌, ⊎_elim, refl, ◌∙◌, arith}
+use Rattle.std.proofs.Common.{◌≡◌, ℕ, List, length, Option, Some, sym, subst, ◌⊎◌, ⊎_elim, refl, ◌∙◌, arith}
 use Rattle.std.specs.Prelude.{Bool, true, false, if◌then◌else◌, bytes_eq, ◌&&◌, ◌||◌, codes, [], ◌∷◌}
 use Rattle.yt_graph.specs.AstPicture.{ItemTree}
 use Rattle.yt_io.specs.Faults.{IsQuiet, Rose}
 use Rattle.yartos.specs.declared.words.Command.{Command}
 use Rattle.yartos.specs.declared.words.Command.TheVariants.{Form, Tasks, Check, Run, Stop}
-use Rattle.yartos.specs.declared.stage.Stage.{Stage}
-use Rattle.yartos.specs.declared.stage.Stage.TheVariants.{Operator, Prints, Misnamed, Unbuilt, Runs}
 use Rattle.yartos.specs.declared.status.Status.{Status}
 use Rattle.yartos.specs.declared.status.Status.TheVariants.{Done, Usage, Graph, Overload, Trace, ReadFault, WriteFault, Missed, NoMemory, Long, NotYet}
 use Rattle.yt_parser.specs.CanonicalText.{canonical_text}
 use Rattle.yartos.specs.Answer.{CannotReadNamed, IfVerdict, IsVerdict, IsDueAt, IsDueToGraph, refused, staged, IsDueOf, IsDueToFiles, too_long, read, IsDueTo, OrNoMemory, OrWriteFault}
 use Rattle.yartos.specs.Causes.{IsCalledFor}
 use Rattle.yartos.specs.RunAnswer.{IsRunDue}
-use Rattle.yartos.specs.Stages.{stage_of}
-use Rattle.yartos.specs.Words.{Plan, misuse, later, judges, plan_of, names_file, is_count, is_demo_count, file_count}
+use Rattle.yartos.specs.Stages.{Stage, operator, prints, misnamed, costly, unbuilt, runs, stage_of}
+use Rattle.yartos.specs.Words.{Request, misuse, later, judges, request_of, names_file, is_count, is_demo_count, file_count}
 use Rattle.yartos.proofs.Verdicts.{calls_for, called_once, names_held}
 
 pub verdict_from : {P : Type 0} (s : Status) → P → IfVerdict s P
@@ -62,13 +60,14 @@ verdict_is : (s known : Status) → s ≡ known → IsVerdict known → IsVerdic
 verdict_is s known e is = subst IsVerdict (sym e) is
 
 verdict_at : (stage : Stage) (items : List ItemTree) (others : List (List ℕ)) (s : Status) (text : List ℕ) → IsDueAt stage items others s text → IsVerdict s
-verdict_at Operator items others s text h = verdict_is s NotYet h.0 tt
-verdict_at Prints items others s text h = verdict_is s Done h.0 tt
-verdict_at (Misnamed fault) items others s text h = verdict_is s Graph h.0 tt
-verdict_at Unbuilt items others s text h = verdict_is s NotYet h.0 tt
-verdict_at Runs items [] s text h = absurd h
-verdict_at Runs items (trace ∷ []) s text h = run_verdict (canonical_text items) trace s text h
-verdict_at Runs items (trace ∷ other ∷ others) s text h = absurd h
+verdict_at operator items others s text h = verdict_is s NotYet h.0 tt
+verdict_at prints items others s text h = verdict_is s Done h.0 tt
+verdict_at (misnamed fault) items others s text h = verdict_is s Graph h.0 tt
+verdict_at (costly graph fault) items others s text h = verdict_is s Graph h.0 tt
+verdict_at unbuilt items others s text h = verdict_is s NotYet h.0 tt
+verdict_at runs items [] s text h = absurd h
+verdict_at runs items (trace ∷ []) s text h = run_verdict (canonical_text items) trace s text h
+verdict_at runs items (trace ∷ other ∷ others) s text h = absurd h
 
 verdict_in_graph : (command : Command) (graph : List ℕ) (others : List (List ℕ)) (s : Status) (text : List ℕ) → IsDueToGraph command graph others s text → IsVerdict s
 verdict_in_graph command graph others s text (refused is line) = verdict_is s Graph is tt
@@ -84,60 +83,60 @@ verdict_in_files told command names s text (read files are h) = verdict_of comma
 
 -- a command judges as many files as it names
 
-abbrev HasCount : Plan → Type 0
+abbrev HasCount : Request → Type 0
 HasCount misuse = Unit {0}
 HasCount later = Unit {0}
 HasCount (judges command names) = length names ≡ file_count command
 
-either_counts : (b : Bool) (p q : Plan) → HasCount p → HasCount q → HasCount (if b then p else q)
+either_counts : (b : Bool) (p q : Request) → HasCount p → HasCount q → HasCount (if b then p else q)
 either_counts true p q h k = h
 either_counts false p q h k = k
 
--- a plan has this one's words
-judges_counts : (b : Bool) (command : Command) (names : List (List ℕ)) (other : Plan) → length names ≡ file_count command → HasCount other → HasCount (if b then judges command names else other)
+-- a request has this one's words
+judges_counts : (b : Bool) (command : Command) (names : List (List ℕ)) (other : Request) → length names ≡ file_count command → HasCount other → HasCount (if b then judges command names else other)
 judges_counts b command names other e h = either_counts b (judges command names) other e h
 
-later_counts : (b : Bool) (other : Plan) → HasCount other → HasCount (if b then later else other)
+later_counts : (b : Bool) (other : Request) → HasCount other → HasCount (if b then later else other)
 later_counts b other h = either_counts b later other tt h
 
-plan_counts : (words : List (List ℕ)) → HasCount (plan_of words)
-plan_counts [] = tt
-plan_counts (command ∷ []) = tt
-plan_counts (command ∷ word ∷ []) =
+request_counts : (words : List (List ℕ)) → HasCount (request_of words)
+request_counts [] = tt
+request_counts (command ∷ []) = tt
+request_counts (command ∷ word ∷ []) =
     judges_counts (bytes_eq command (codes "form") && names_file word) Form (word ∷ []) _ refl
     (judges_counts (bytes_eq command (codes "tasks") && names_file word) Tasks (word ∷ []) _ refl
     (judges_counts (bytes_eq command (codes "check") && names_file word) Check (word ∷ []) _ refl
     (later_counts ((bytes_eq command (codes "set") || bytes_eq command (codes "replay")) && names_file word) _
     (later_counts (bytes_eq command (codes "demo") && is_demo_count word) misuse tt))))
-plan_counts (command ∷ first ∷ second ∷ []) =
+request_counts (command ∷ first ∷ second ∷ []) =
     judges_counts (bytes_eq command (codes "run") && (names_file first && names_file second)) Run (first ∷ second ∷ []) _ refl
     (later_counts (bytes_eq command (codes "play") && (names_file first && names_file second)) misuse tt)
-plan_counts (command ∷ graph ∷ trace ∷ tick ∷ []) =
+request_counts (command ∷ graph ∷ trace ∷ tick ∷ []) =
     judges_counts (bytes_eq command (codes "stop") && (names_file graph && (names_file trace && is_count tick))) Stop (graph ∷ trace ∷ []) misuse refl tt
-plan_counts (command ∷ first ∷ second ∷ third ∷ fourth ∷ words) = tt
+request_counts (command ∷ first ∷ second ∷ third ∷ fourth ∷ words) = tt
 
--- what is due to a plan is due to words that ask for it
-pub due_for : (told : Option (List ℕ → Option (List ℕ))) (plan other : Plan) (s : Status) (text : List ℕ) → plan ≡ other → IsDueTo told plan s text → IsDueTo told other s text
-due_for told plan other s text e h = subst (λ (p : Plan). IsDueTo told p s text) e h
+-- what is due to a request is due to words that ask for it
+pub due_for : (told : Option (List ℕ → Option (List ℕ))) (request other : Request) (s : Status) (text : List ℕ) → request ≡ other → IsDueTo told request s text → IsDueTo told other s text
+due_for told request other s text e h = subst (λ (p : Request). IsDueTo told p s text) e h
 
-pub unread_for : (told : Option (List ℕ → Option (List ℕ))) (plan other : Plan) (P : Type 0) → plan ≡ other → CannotReadNamed told plan ⊎ P → CannotReadNamed told other ⊎ P
-unread_for told plan other P e h = subst (λ (p : Plan). CannotReadNamed told p ⊎ P) e h
+pub unread_for : (told : Option (List ℕ → Option (List ℕ))) (request other : Request) (P : Type 0) → request ≡ other → CannotReadNamed told request ⊎ P → CannotReadNamed told other ⊎ P
+unread_for told request other P e h = subst (λ (p : Request). CannotReadNamed told p ⊎ P) e h
 
-pub count_for : (words names : List (List ℕ)) (command : Command) → judges command names ≡ plan_of words → length names ≡ file_count command
-count_for words names command e = subst HasCount (sym e) (plan_counts words)
+pub count_for : (words names : List (List ℕ)) (command : Command) → judges command names ≡ request_of words → length names ≡ file_count command
+count_for words names command e = subst HasCount (sym e) (request_counts words)
 
 -- what is due is what is called for
-pub is_called_for : (told : Option (List ℕ → Option (List ℕ))) (held : List ℕ → Option (List ℕ)) (plan : Plan) (s due : Status) (text : List ℕ) →
-    told ≡ Some held → IsDueTo told plan s text → IsCalledFor held plan due → s ≡ due
-is_called_for told held plan s due text e is calls =
-    called_once held plan s due (calls_for held plan s text (subst (λ t. IsDueTo t plan s text) e is)) calls
+pub is_called_for : (told : Option (List ℕ → Option (List ℕ))) (held : List ℕ → Option (List ℕ)) (request : Request) (s due : Status) (text : List ℕ) →
+    told ≡ Some held → IsDueTo told request s text → IsCalledFor held request due → s ≡ due
+is_called_for told held request s due text e is calls =
+    called_once held request s due (calls_for held request s text (subst (λ t. IsDueTo t request s text) e is)) calls
 
 -- a read fault is not called for where no count rises
-pub no_read_fault : (told : Option (List ℕ → Option (List ℕ))) (held : List ℕ → Option (List ℕ)) (plan : Plan) (due : Status) (old new : ℕ) →
-    told ≡ Some held → IsCalledFor held plan due → CannotReadNamed told plan ⊎ Rose old new → IsQuiet old new → ⊥
-no_read_fault told held plan due old new e calls failed quiet =
+pub no_read_fault : (told : Option (List ℕ → Option (List ℕ))) (held : List ℕ → Option (List ℕ)) (request : Request) (due : Status) (old new : ℕ) →
+    told ≡ Some held → IsCalledFor held request due → CannotReadNamed told request ⊎ Rose old new → IsQuiet old new → ⊥
+no_read_fault told held request due old new e calls failed quiet =
     ⊎_elim
-    (λ cannot. names_held held plan due calls (subst (λ t. CannotReadNamed t plan) e cannot))
+    (λ cannot. names_held held request due calls (subst (λ t. CannotReadNamed t request) e cannot))
     (λ (rose : Rose old new). let more = rose quiet.1 in let same = quiet.0 in omega arith)
     failed
 

@@ -7,8 +7,8 @@ use Rattle.std.specs.Fmt.{decimal, signed_decimal}
 use Rattle.std.proofs.lemmas.Grind.{common_steps}
 use Rattle.std.proofs.lemmas.Bool.{and_parts}
 use Rattle.yt_base.proofs.Decimals.{decimal_passes, signed_decimal_passes}
-use Rattle.yartos.specs.FirstText.{is_name, begins_as_word}
-use Rattle.yt_lexer.specs.First.{is_word_byte, is_reserved}
+use Rattle.yt_graph.specs.Names.{is_name, begins_as_word, is_word_byte}
+use Rattle.yt_graph.specs.Reserved.{is_reserved}
 use Rattle.yartos.specs.Split.{lacks, IsSplit}
 use Rattle.yartos.specs.TraceText.{message_line}
 use Rattle.yartos.proofs.TraceSplits.{split_is}

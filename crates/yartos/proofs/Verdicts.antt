@@ -1,7 +1,6 @@
 -- What is due to words and files is one status.
-use Rattle.std.proofs.Common.{◌≡◌, ℕ, zero, suc, ◌<◌, ◌≤◌, List, [], ◌∷◌, ◌++◌, length, Option, Some, None, refl, sym, ap, subst, ◌∙◌, ⊎_elim, append_assoc, append-nil, arith}
+use Rattle.std.proofs.Common.{◌≡◌, ℕ, zero, suc, ◌<◌, List, [], ◌∷◌, ◌++◌, length, Option, Some, None, refl, sym, subst, ◌∙◌, ⊎_elim, append_assoc, append-nil, arith}
 use Rattle.std.specs.Prelude.{IsSomeAnd}
-use Rattle.yt_graph.specs.declared.place.Place.{Place}
 use Rattle.yt_graph.specs.AstPicture.{ItemTree}
 use Rattle.yt_io.specs.Shelf.{HoldsOver}
 use Rattle.yt_lexer.specs.declared.token.Token.{Token}
@@ -10,34 +9,31 @@ use Rattle.yt_lexer.specs.declared.token.LexFault.TheVariants.{BadByte, LongName
 use Rattle.yt_lexer.specs.Lexes.{Lexes, IsFirstFault}
 use Rattle.yt_lexer.proofs.LexesLemmas.{lexes_once}
 use Rattle.yt_parser.specs.CanonicalText.{canonical_text}
-use Rattle.yt_parser.specs.Grammar.{Spells, IsFront, IsStuckAt}
+use Rattle.yt_parser.specs.Grammar.{Spells, IsStuckAt}
 use Rattle.yt_parser.specs.Lexemes.{Tok, toks_of}
-use Rattle.yt_parser.specs.Parses.{IsSyntaxFault}
 use Rattle.yt_parser.proofs.reading.Graph.{graph_only}
 use Rattle.yartos.specs.declared.words.Command.{Command}
-use Rattle.yartos.specs.declared.stage.Stage.{Stage}
-use Rattle.yartos.specs.declared.stage.Stage.TheVariants.{Operator, Prints, Misnamed, Unbuilt, Runs}
 use Rattle.yartos.specs.declared.status.Status.{Status}
-use Rattle.yartos.specs.declared.status.Status.TheVariants.{Long}
 use Rattle.yartos.specs.Answer as due
 use Rattle.yartos.specs.Answer.{IsDueAt, IsDueToGraph, IsDueOf, IsDueToFiles, IsDueTo, CannotReadNamed}
 use Rattle.yartos.specs.Causes.{IsCauseAt, IsCauseInGraph, refused, staged, IsCauseOf, IsCauseInFiles, too_long, read, IsCalledFor}
 use Rattle.yartos.specs.GraphText.{IsTreeOf, IsRefusedText, not_lexed, not_spelled, IsLexLine}
 use Rattle.yartos.specs.Reads.{IsRead, AreRead, CannotRead, IsFirstLong}
-use Rattle.yartos.specs.Stages.{stage_of}
-use Rattle.yartos.specs.Words.{Plan, misuse, later, judges}
+use Rattle.yartos.specs.Stages.{Stage, operator, prints, misnamed, costly, unbuilt, runs, stage_of}
+use Rattle.yartos.specs.Words.{Request, misuse, later, judges}
 use Rattle.yartos.proofs.RunVerdicts.{run_cause, one_run_status}
 
 -- what is due has its cause
 
 cause_at : (stage : Stage) (items : List ItemTree) (others : List (List ℕ)) (s : Status) (text : List ℕ) → IsDueAt stage items others s text → IsCauseAt stage items others s
-cause_at Operator items others s text h = h.0
-cause_at Prints items others s text h = h.0
-cause_at (Misnamed fault) items others s text h = h.0
-cause_at Unbuilt items others s text h = h.0
-cause_at Runs items [] s text h = absurd h
-cause_at Runs items (trace ∷ []) s text h = run_cause (canonical_text items) trace text s h
-cause_at Runs items (trace ∷ other ∷ others) s text h = absurd h
+cause_at operator items others s text h = h.0
+cause_at prints items others s text h = h.0
+cause_at (misnamed fault) items others s text h = h.0
+cause_at (costly graph fault) items others s text h = h.0
+cause_at unbuilt items others s text h = h.0
+cause_at runs items [] s text h = absurd h
+cause_at runs items (trace ∷ []) s text h = run_cause (canonical_text items) trace text s h
+cause_at runs items (trace ∷ other ∷ others) s text h = absurd h
 
 cause_in_graph : (command : Command) (graph : List ℕ) (others : List (List ℕ)) (s : Status) (text : List ℕ) → IsDueToGraph command graph others s text → IsCauseInGraph command graph others s
 cause_in_graph command graph others s text (due.refused is line) = refused text is line
@@ -52,7 +48,7 @@ cause_in_files : (held : List ℕ → Option (List ℕ)) (command : Command) (na
 cause_in_files held command names s text (due.too_long place long is line) = too_long place long is
 cause_in_files held command names s text (due.read files are h) = read files are (cause_of command files s text h)
 
-pub calls_for : (held : List ℕ → Option (List ℕ)) (plan : Plan) (s : Status) (text : List ℕ) → IsDueTo (Some held) plan s text → IsCalledFor held plan s
+pub calls_for : (held : List ℕ → Option (List ℕ)) (request : Request) (s : Status) (text : List ℕ) → IsDueTo (Some held) request s text → IsCalledFor held request s
 calls_for held misuse s text h = h.0
 calls_for held later s text h = h.0
 calls_for held (judges command names) s text h = cause_in_files held command names s text h
@@ -90,13 +86,14 @@ not_refused graph text items (not_spelled tokens place lexed fault line) tree =
 -- no two causes of different statuses stand together
 
 one_at : (stage : Stage) (items : List ItemTree) (others : List (List ℕ)) (s t : Status) → IsCauseAt stage items others s → IsCauseAt stage items others t → s ≡ t
-one_at Operator items others s t p q = p ∙ sym q
-one_at Prints items others s t p q = p ∙ sym q
-one_at (Misnamed fault) items others s t p q = p ∙ sym q
-one_at Unbuilt items others s t p q = p ∙ sym q
-one_at Runs items [] s t p q = absurd p
-one_at Runs items (trace ∷ []) s t p q = one_run_status (canonical_text items) trace s t p q
-one_at Runs items (trace ∷ other ∷ others) s t p q = absurd p
+one_at operator items others s t p q = p ∙ sym q
+one_at prints items others s t p q = p ∙ sym q
+one_at (misnamed fault) items others s t p q = p ∙ sym q
+one_at (costly graph fault) items others s t p q = p ∙ sym q
+one_at unbuilt items others s t p q = p ∙ sym q
+one_at runs items [] s t p q = absurd p
+one_at runs items (trace ∷ []) s t p q = one_run_status (canonical_text items) trace s t p q
+one_at runs items (trace ∷ other ∷ others) s t p q = absurd p
 
 one_in_graph : (command : Command) (graph : List ℕ) (others : List (List ℕ)) (s t : Status) → IsCauseInGraph command graph others s → IsCauseInGraph command graph others t → s ≡ t
 one_in_graph command graph others s t (refused text p line) (refused more q other) = p ∙ sym q
@@ -143,7 +140,7 @@ one_in_files held command names s t (read files are h) (too_long place long p) =
 one_in_files held command names s t (read a are h) (read b too k) = one_of command b s t (subst (λ (files : List (List ℕ)). IsCauseOf command files s) (same_files held names a b are too) h) k
 
 -- one status is called for
-pub called_once : (held : List ℕ → Option (List ℕ)) (plan : Plan) (s t : Status) → IsCalledFor held plan s → IsCalledFor held plan t → s ≡ t
+pub called_once : (held : List ℕ → Option (List ℕ)) (request : Request) (s t : Status) → IsCalledFor held request s → IsCalledFor held request t → s ≡ t
 called_once held misuse s t p q = p ∙ sym q
 called_once held later s t p q = p ∙ sym q
 called_once held (judges command names) s t p q = one_in_files held command names s t p q
@@ -172,7 +169,7 @@ reads_or_reaches held command names s (too_long place long is) cannot = can_reac
 reads_or_reaches held command names s (read files are h) cannot = can_read held names files are cannot
 
 -- where a status is called for, the words name no file that cannot be read
-pub names_held : (held : List ℕ → Option (List ℕ)) (plan : Plan) (s : Status) → IsCalledFor held plan s → CannotReadNamed (Some held) plan → ⊥
+pub names_held : (held : List ℕ → Option (List ℕ)) (request : Request) (s : Status) → IsCalledFor held request s → CannotReadNamed (Some held) request → ⊥
 names_held held misuse s h cannot = cannot
 names_held held later s h cannot = cannot
 names_held held (judges command names) s h cannot = reads_or_reaches held command names s h cannot

@@ -3,16 +3,15 @@ use Rattle.std.specs.Prelude.{◌≡◌, ℕ, suc, List, [], ◌∷◌, ◌++◌
 use Rattle.std.specs.Fmt.{decimal}
 use Rattle.yt_graph.specs.AstPicture.{ItemTree}
 use Rattle.yt_parser.specs.CanonicalText.{canonical_text}
+use Rattle.yt_parser.specs.SamePlaces.{ReadsAs}
 use Rattle.yartos.specs.declared.words.Command.{Command}
-use Rattle.yartos.specs.declared.stage.Stage.{Stage}
-use Rattle.yartos.specs.declared.stage.Stage.TheVariants.{Operator, Prints, Misnamed, Unbuilt, Runs}
 use Rattle.yartos.specs.declared.status.Status.{Status}
 use Rattle.yartos.specs.declared.status.Status.TheVariants.{Done, Usage, Graph, ReadFault, WriteFault, NoMemory, Long, NotYet}
-use Rattle.yartos.specs.GraphText.{IsTreeOf, IsRefusedText, IsNameLine}
+use Rattle.yartos.specs.GraphText.{IsTreeOf, IsRefusedText, IsNameLine, IsCostLine}
 use Rattle.yartos.specs.Reads.{AreRead, CannotRead, IsFirstLong}
 use Rattle.yartos.specs.RunAnswer.{IsRunDue}
-use Rattle.yartos.specs.Stages.{stage_of}
-use Rattle.yartos.specs.Words.{Plan, misuse, later, judges, plan_of}
+use Rattle.yartos.specs.Stages.{Stage, operator, prints, misnamed, costly, unbuilt, runs, stage_of}
+use Rattle.yartos.specs.Words.{Request, misuse, later, judges, request_of}
 
 -- the answer to what isn't built yet
 abbrev pub IsNotYet : Status → List ℕ → Type 0
@@ -26,11 +25,12 @@ IsDueToRun items (trace ∷ other ∷ others) status text = ⊥
 
 -- this status with this text is due to this graph and what the other files hold, by where the command stands
 abbrev pub IsDueAt : Stage → List ItemTree → List (List ℕ) → Status → List ℕ → Type 0
-IsDueAt Operator items others status text = IsNotYet status text
-IsDueAt Prints items others status text = (status ≡ Done) × (text ≡ canonical_text items)
-IsDueAt (Misnamed fault) items others status text = (status ≡ Graph) × IsNameLine text fault
-IsDueAt Unbuilt items others status text = IsNotYet status text
-IsDueAt Runs items others status text = IsDueToRun items others status text
+IsDueAt operator items others status text = IsNotYet status text
+IsDueAt prints items others status text = (status ≡ Done) × (text ≡ canonical_text items) × ReadsAs text items
+IsDueAt (misnamed fault) items others status text = (status ≡ Graph) × IsNameLine text fault
+IsDueAt (costly graph fault) items others status text = (status ≡ Graph) × IsCostLine text graph fault
+IsDueAt unbuilt items others status text = IsNotYet status text
+IsDueAt runs items others status text = IsDueToRun items others status text
 
 -- this status with this text is due to a command and what the graph's and the other files hold
 pub data IsDueToGraph (command : Command) (graph : List ℕ) (others : List (List ℕ)) (status : Status) (text : List ℕ) : Type 0 where
@@ -56,17 +56,17 @@ abbrev pub usage_line : List ℕ
 usage_line = codes "usage: yartos form G, tasks G, check G, run G T, stop G T N, set S, play S P, replay S, demo N\n"
 
 -- this status with this text is due to what words ask for
-abbrev pub IsDueTo : Option (List ℕ → Option (List ℕ)) → Plan → Status → List ℕ → Type 0
+abbrev pub IsDueTo : Option (List ℕ → Option (List ℕ)) → Request → Status → List ℕ → Type 0
 IsDueTo told misuse status text = (status ≡ Usage) × (text ≡ usage_line)
 IsDueTo told later status text = IsNotYet status text
 IsDueTo told (judges command names) status text = IsDueToFiles told command names status text
 
 -- this status with this text is due to the words and the files that they name
 abbrev pub IsDue : Option (List ℕ → Option (List ℕ)) → List (List ℕ) → Status → List ℕ → Type 0
-IsDue told words status text = IsDueTo told (plan_of words) status text
+IsDue told words status text = IsDueTo told (request_of words) status text
 
 -- the shelf tells that a file isn't held which the words name, and each before it was read
-abbrev pub CannotReadNamed : Option (List ℕ → Option (List ℕ)) → Plan → Type 0
+abbrev pub CannotReadNamed : Option (List ℕ → Option (List ℕ)) → Request → Type 0
 CannotReadNamed told misuse = ⊥
 CannotReadNamed told later = ⊥
 CannotReadNamed told (judges command names) = CannotRead told names

@@ -3,15 +3,13 @@ use Rattle.std.specs.Prelude.{◌≡◌, ℕ, List, [], ◌∷◌, Option, Some}
 use Rattle.yt_graph.specs.AstPicture.{ItemTree}
 use Rattle.yt_parser.specs.CanonicalText.{canonical_text}
 use Rattle.yartos.specs.declared.words.Command.{Command}
-use Rattle.yartos.specs.declared.stage.Stage.{Stage}
-use Rattle.yartos.specs.declared.stage.Stage.TheVariants.{Operator, Prints, Misnamed, Unbuilt, Runs}
 use Rattle.yartos.specs.declared.status.Status.{Status}
 use Rattle.yartos.specs.declared.status.Status.TheVariants.{Done, Usage, Graph, Long, NotYet}
 use Rattle.yartos.specs.GraphText.{IsTreeOf, IsRefusedText}
 use Rattle.yartos.specs.Reads.{AreRead, IsFirstLong}
 use Rattle.yartos.specs.RunCauses.{IsRunCause}
-use Rattle.yartos.specs.Stages.{stage_of}
-use Rattle.yartos.specs.Words.{Plan, misuse, later, judges, plan_of}
+use Rattle.yartos.specs.Stages.{Stage, operator, prints, misnamed, costly, unbuilt, runs, stage_of}
+use Rattle.yartos.specs.Words.{Request, misuse, later, judges, request_of}
 
 -- why a status is due to a run of this graph on what the one other file holds
 abbrev pub IsCauseOfRun : List ItemTree → List (List ℕ) → Status → Type 0
@@ -21,11 +19,12 @@ IsCauseOfRun items (trace ∷ other ∷ others) status = ⊥
 
 -- why a status is due to this graph and what the other files hold, by where the command stands
 abbrev pub IsCauseAt : Stage → List ItemTree → List (List ℕ) → Status → Type 0
-IsCauseAt Operator items others status = status ≡ NotYet
-IsCauseAt Prints items others status = status ≡ Done
-IsCauseAt (Misnamed fault) items others status = status ≡ Graph
-IsCauseAt Unbuilt items others status = status ≡ NotYet
-IsCauseAt Runs items others status = IsCauseOfRun items others status
+IsCauseAt operator items others status = status ≡ NotYet
+IsCauseAt prints items others status = status ≡ Done
+IsCauseAt (misnamed fault) items others status = status ≡ Graph
+IsCauseAt (costly graph fault) items others status = status ≡ Graph
+IsCauseAt unbuilt items others status = status ≡ NotYet
+IsCauseAt runs items others status = IsCauseOfRun items others status
 
 -- why a status is due to a command and what the graph's and the other files hold
 pub data IsCauseInGraph (command : Command) (graph : List ℕ) (others : List (List ℕ)) (status : Status) : Type 0 where
@@ -43,11 +42,11 @@ pub data IsCauseInFiles (held : List ℕ → Option (List ℕ)) (command : Comma
   read : (files : List (List ℕ)) → AreRead (Some held) names files → IsCauseOf command files status → IsCauseInFiles held command names status
 
 -- why a status is due to what words ask for
-abbrev pub IsCalledFor : (List ℕ → Option (List ℕ)) → Plan → Status → Type 0
+abbrev pub IsCalledFor : (List ℕ → Option (List ℕ)) → Request → Status → Type 0
 IsCalledFor held misuse status = status ≡ Usage
 IsCalledFor held later status = status ≡ NotYet
 IsCalledFor held (judges command names) status = IsCauseInFiles held command names status
 
 -- why a status is due to words, by what the shelf holds
 abbrev pub CallsFor : (List ℕ → Option (List ℕ)) → List (List ℕ) → Status → Type 0
-CallsFor held words status = IsCalledFor held (plan_of words) status
+CallsFor held words status = IsCalledFor held (request_of words) status

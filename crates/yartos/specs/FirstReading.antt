@@ -5,8 +5,7 @@ use Rattle.yt_base.specs.declared.numbers.Decimal.{Decimal}
 use Rattle.yt_base.specs.declared.numbers.Decimal.TheVariants.{Other, Over, Value}
 use Rattle.yt_base.specs.Digits.{digits_of_text}
 use Rattle.yt_run.specs.First.{First, Operand, the_message, the_number}
-use Rattle.yartos.specs.FirstText.{is_name}
-use Rattle.yt_lexer.specs.First.{is_word_byte}
+use Rattle.yt_graph.specs.Names.{is_name, is_word_byte}
 
 -- the next reader goes on where the one before read something
 infixl 10 ◌>>=◌

@@ -1,18 +1,8 @@
 -- The text of a graph that a first run takes, byte for byte.
-use Rattle.std.specs.Prelude.{◌≡◌, ◌≢◌, ℕ, ◌&&◌, not, nat_le, Bool, false, List, [], ◌∷◌, ◌++◌, length, codes, IsTrue}
-use Rattle.std.specs.List.{list_all}
+use Rattle.std.specs.Prelude.{◌≡◌, ◌≢◌, ℕ, List, [], ◌∷◌, ◌++◌, codes, IsTrue}
 use Rattle.std.specs.Fmt.{decimal}
-use Rattle.yt_lexer.specs.First.{is_letter, is_word_byte, is_reserved}
+use Rattle.yt_graph.specs.Names.{is_name}
 use Rattle.yt_run.specs.First.{First, Operand, the_message, the_number, IsInRange}
-
--- a letter or `_` comes first
-abbrev pub begins_as_word : List ℕ → Bool
-begins_as_word [] = false
-begins_as_word (c ∷ cs) = is_letter c
-
--- a word that may name something: a letter or `_`, then letters, digits and `_`, at most 32 bytes, and not reserved
-abbrev pub is_name : List ℕ → Bool
-is_name word = begins_as_word word && (list_all is_word_byte word && (nat_le (length word) 32 && not (is_reserved word)))
 
 -- an operand, the message's number by the parameter's name
 abbrev pub operand_text : List ℕ → Operand → List ℕ

@@ -1,8 +1,13 @@
 -- The text of a graph: its tree, or the line of its first fault.
-use Rattle.std.specs.Prelude.{◌≡◌, ℕ, List, [], ◌∷◌, ◌++◌, Option, None, codes}
+use Rattle.std.specs.Prelude.{◌≡◌, ℕ, ◌-◌, List, [], ◌∷◌, ◌++◌, None, slice_index_or, codes}
 use Rattle.std.specs.Fmt.{decimal}
 use Rattle.yt_graph.specs.declared.place.Place.{Place}
+use Rattle.yt_graph.specs.declared.port.OutHead.{OutHead}
 use Rattle.yt_graph.specs.AstPicture.{ItemTree, ast_tree}
+use Rattle.yt_graph.specs.AstWellFormed.{IsWritable}
+use Rattle.yt_graph.specs.Picture.{GraphTree}
+use Rattle.yt_cost.specs.declared.fault.CostFault as cost
+use Rattle.yt_cost.specs.declared.fault.CostFault.{CostFault}
 use Rattle.yt_lexer.specs.declared.token.Token.{Token}
 use Rattle.yt_lexer.specs.declared.token.LexFault as lex
 use Rattle.yt_lexer.specs.declared.token.LexFault.{LexFault}
@@ -14,6 +19,8 @@ use Rattle.yt_names.specs.declared.fault.NameFault.{NameFault}
 use Rattle.yt_parser.specs.Grammar.{Spells}
 use Rattle.yt_parser.specs.Lexemes.{toks_of}
 use Rattle.yt_parser.specs.Parses.{IsSyntaxFault}
+use Rattle.yt_run.specs.RunText.{port_label}
+use Rattle.yt_run.specs.Serial.{no_port}
 use Rattle.yartos.specs.declared.graph_text.GraphRead.{GraphRead}
 use Rattle.yartos.specs.declared.graph_text.GraphRead.TheVariants.{Tree, Refused}
 
@@ -57,6 +64,20 @@ IsNameLine text (name.TheVariants.Limit p kind) = text ≡ placed_line (codes "g
 IsNameLine text (name.TheVariants.Cycle p) = text ≡ placed_line (codes "graph name") p (codes " cycle\n")
 IsNameLine text name.TheVariants.Memory = ⊥
 
+-- what stands for an out where there is none
+abbrev pub no_out : OutHead
+no_out = record { name = []; width = 0; every = 0 }
+
+-- the name of an out of a port, both by their numbers from 1
+abbrev pub out_name : GraphTree → ℕ → ℕ → List ℕ
+out_name graph port out = (slice_index_or (slice_index_or graph.ports (port - 1) no_port).outs (out - 1) no_out).name
+
+-- the text is the line of a fault of costs, `graph cost PORT TICKS` or `graph sends PORT OUT`; want of memory has none
+abbrev pub IsCostLine : List ℕ → GraphTree → CostFault → Type 0
+IsCostLine text graph (cost.TheVariants.Long port ticks) = text ≡ codes "graph cost " ++ (port_label graph port ++ (32 ∷ decimal ticks ++ 10 ∷ []))
+IsCostLine text graph (cost.TheVariants.Sends port out) = text ≡ codes "graph sends " ++ (port_label graph port ++ (32 ∷ out_name graph port out ++ 10 ∷ []))
+IsCostLine text graph cost.TheVariants.Memory = ⊥
+
 -- the tree that a graph's text spells
 pub record IsTreeOf (graph : List ℕ) (items : List ItemTree) : Type 0 where
   pub tokens : List Token
@@ -69,7 +90,7 @@ pub data IsRefusedText (graph text : List ℕ) : Type 0 where
   not_spelled : (tokens : List Token) (place : Place) → Lexes graph 0 tokens None → IsSyntaxFault graph (toks_of graph tokens) place → text ≡ syntax_line place →
       IsRefusedText graph text
 
--- what was read is the graph's tree, or the line of its first fault
+-- what was read is the graph's tree, which can be written, or the line of its first fault
 abbrev pub IsReadOf : List ℕ → GraphRead → Type 0
-IsReadOf graph (Tree ast) = IsTreeOf graph (ast_tree ast)
+IsReadOf graph (Tree ast) = IsTreeOf graph (ast_tree ast) × IsWritable (ast_tree ast)
 IsReadOf graph (Refused line) = IsRefusedText graph line

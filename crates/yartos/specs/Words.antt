@@ -5,11 +5,11 @@ use Rattle.std.specs.declared.alloc.Global.{Global}
 use Rattle.yt_base.specs.declared.numbers.Decimal.{Decimal}
 use Rattle.yt_base.specs.declared.numbers.Decimal.TheVariants.{Other, Over, Value}
 use Rattle.yt_base.specs.Digits.{digits_of_text}
-use Rattle.yt_lexer.specs.First.{is_digit}
+use Rattle.yt_graph.specs.Names.{is_digit}
 use Rattle.yartos.specs.declared.words.Command.{Command}
 use Rattle.yartos.specs.declared.words.Command.TheVariants.{Form, Tasks, Check, Run, Stop}
-use Rattle.yartos.specs.declared.words.Plan as declared
-use Rattle.yartos.specs.declared.words.Plan.TheVariants.{Misuse, Later, Judges}
+use Rattle.yartos.specs.declared.words.Request as declared
+use Rattle.yartos.specs.declared.words.Request.TheVariants.{Misuse, Later, Judges}
 
 -- the bytes of each word
 abbrev pub texts : List (String Global) → List (List ℕ)
@@ -34,28 +34,34 @@ abbrev pub is_demo_count : List ℕ → Bool
 is_demo_count word = is_count word && is_from_1_to_16 (digits_of_text word)
 
 -- what words ask for: they are no listed form, they're of a form that isn't built yet, or a command judges these files
-pub data Plan : Type 0 where
-  misuse : Plan
-  later : Plan
-  judges : Command → List (List ℕ) → Plan
+pub data Request : Type 0 where
+  misuse : Request
+  later : Request
+  judges : Command → List (List ℕ) → Request
 
 -- what words ask for: one word behind the command, two or three, as the listed forms have them
-abbrev pub plan_of : List (List ℕ) → Plan
-plan_of (command ∷ word ∷ []) =
+abbrev pub request_of : List (List ℕ) → Request
+request_of (command ∷ word ∷ []) =
     if bytes_eq command (codes "form") && names_file word then judges Form (word ∷ [])
     else (if bytes_eq command (codes "tasks") && names_file word then judges Tasks (word ∷ [])
     else (if bytes_eq command (codes "check") && names_file word then judges Check (word ∷ [])
     else (if (bytes_eq command (codes "set") || bytes_eq command (codes "replay")) && names_file word then later
     else (if bytes_eq command (codes "demo") && is_demo_count word then later
     else misuse))))
-plan_of (command ∷ first ∷ second ∷ []) =
+request_of (command ∷ first ∷ second ∷ []) =
     if bytes_eq command (codes "run") && (names_file first && names_file second) then judges Run (first ∷ second ∷ [])
     else (if bytes_eq command (codes "play") && (names_file first && names_file second) then later
     else misuse)
-plan_of (command ∷ graph ∷ trace ∷ tick ∷ []) =
+request_of (command ∷ graph ∷ trace ∷ tick ∷ []) =
     if bytes_eq command (codes "stop") && (names_file graph && (names_file trace && is_count tick)) then judges Stop (graph ∷ trace ∷ [])
     else misuse
-plan_of words = misuse
+request_of words = misuse
+
+-- a request that no file is read for
+abbrev pub NeedsNoFile : Request → Type 0
+NeedsNoFile misuse = Unit {0}
+NeedsNoFile later = Unit {0}
+NeedsNoFile (judges command names) = ⊥
 
 -- how many files a command judges
 abbrev pub file_count : Command → ℕ
@@ -65,8 +71,8 @@ file_count Check = 1
 file_count Run = 2
 file_count Stop = 2
 
--- the plan that the code finds, with the bytes of the words
-abbrev pub plan_found : declared.Plan → Plan
-plan_found Misuse = misuse
-plan_found Later = later
-plan_found (Judges command files) = judges command (texts files.now)
+-- the request that the code finds, with the bytes of the words
+abbrev pub request_found : declared.Request → Request
+request_found Misuse = misuse
+request_found Later = later
+request_found (Judges command files) = judges command (texts files.now)

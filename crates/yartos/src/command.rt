@@ -6,7 +6,7 @@ ghost use Rattle.yartos.specs.Words.{file_count};
 
 use crate::answer::{Answer, not_yet};
 use crate::graph_text::{GraphRead, read_graph};
-use crate::refusals::name_line;
+use crate::refusals::{cost_line, name_line};
 use crate::run_answer::judge_run;
 use crate::stage::{Stage, stage_of};
 use crate::status::Status;
@@ -43,6 +43,10 @@ pub(crate) fn judge(
         Stage::Misnamed(fault) => Ok(Answer {
             status: Status::Graph,
             text: name_line(alloc, fault)?,
+        }),
+        Stage::Costly(graph, fault) => Ok(Answer {
+            status: Status::Graph,
+            text: cost_line(alloc, &graph, fault)?,
         }),
         Stage::Runs => judge_run(alloc, &print_graph(alloc, &ast)?, &files[1]),
     }

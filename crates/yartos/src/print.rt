@@ -80,7 +80,7 @@ fn put_end(text: &mut Text, time: u64) -> Result<(), AllocError>
 
 /// Adds the name of the port of a number, from 1: its process's, a dot, and its own. Where there is no such port, both are
 /// empty.
-fn put_label(text: &mut Text, graph: &Graph, number: u32) -> Result<(), AllocError>
+pub(crate) fn put_label(text: &mut Text, graph: &Graph, number: u32) -> Result<(), AllocError>
     ensures { OnOk result (text.new ≡ text.old ++ port_label (graph_tree graph.now) number) }
 {
     let (process, port) = names_of_port(graph, number);
@@ -110,7 +110,7 @@ fn name_of_output(graph: &Graph, number: u32) -> &[u8]
 }
 
 /// The place, from 0, of what has this number, from 1.
-fn place_of(number: u32) -> usize
+pub(crate) fn place_of(number: u32) -> usize
     ensures { result ≡ number - 1 }
 {
     number.saturating_sub(1) as usize

@@ -1,10 +1,13 @@
 //! The lines of a graph's faults.
 ghost use Rattle.std.specs.Prelude.{◌≡◌, IfOk};
-ghost use Rattle.yartos.specs.GraphText.{IsLexLine, IsNameLine, limit_end, placed_line, syntax_line};
+ghost use Rattle.yt_graph.specs.Picture.{graph_tree};
+ghost use Rattle.yartos.specs.GraphText.{IsCostLine, IsLexLine, IsNameLine, limit_end, out_name, placed_line, syntax_line};
 
+use crate::print::{place_of, put_label};
 use crate::text::Text;
 use std::alloc::{AllocError, Global};
-use yt_graph::Place;
+use yt_cost::CostFault;
+use yt_graph::{Graph, Place};
 use yt_lexer::LexFault;
 use yt_names::{LimitKind, NameFault};
 
@@ -39,6 +42,43 @@ pub(crate) fn name_line(alloc: Global, fault: NameFault) -> Result<Text, AllocEr
         NameFault::Limit(place, kind) => placed_line(alloc, b"graph limit", place, limit_end(kind)),
         NameFault::Cycle(place) => placed_line(alloc, b"graph name", place, b" cycle\n"),
         NameFault::Memory => Err(AllocError),
+    }
+}
+
+/// The line of a fault of a graph's costs. `Err` comes where memory ran out, as `Memory` says.
+pub(crate) fn cost_line(alloc: Global, graph: &Graph, fault: CostFault) -> Result<Text, AllocError>
+    ensures { IfOk result (λ line. IsCostLine line (graph_tree graph.now) fault) }
+{
+    let mut line = Text::new(alloc);
+    match fault {
+        CostFault::Long { port, ticks } => {
+            line.put(b"graph cost ")?;
+            put_label(&mut line, graph, port)?;
+            line.put_field(ticks)?;
+            line.put(b"\n")?;
+        }
+        CostFault::Sends { port, out } => {
+            line.put(b"graph sends ")?;
+            put_label(&mut line, graph, port)?;
+            line.put(b" ")?;
+            line.put(name_of_out(graph, port, out))?;
+            line.put(b"\n")?;
+        }
+        CostFault::Memory => return Err(AllocError),
+    }
+    Ok(line)
+}
+
+/// The name of an out of a port, both by their numbers from 1; empty where there is no such out.
+fn name_of_out(graph: &Graph, port: u32, out: u32) -> &[u8]
+    ensures { result.now ≡ out_name (graph_tree graph.now) port out }
+{
+    match graph.ports.as_slice().get(place_of(port)) {
+        Some(port) => match port.outs.as_slice().get(place_of(out)) {
+            Some(out) => out.name.as_slice(),
+            None => b"",
+        },
+        None => b"",
     }
 }
 

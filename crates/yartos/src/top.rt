@@ -2,14 +2,14 @@
 ghost use Rattle.std.specs.Prelude.{◌≡◌, ◌⊎◌, ◌≤◌, ℕ, List, Option, Some};
 ghost use Rattle.yt_io.specs.Faults.{IsQuiet, Rose};
 ghost use Rattle.yt_io.specs.Sink.{AddsFront, add};
-ghost use Rattle.yartos.specs.Words.{later, misuse, plan_of, texts};
+ghost use Rattle.yartos.specs.Words.{NeedsNoFile, later, misuse, request_of, texts};
 ghost use Rattle.yartos.specs.Answer.{CannotReadNamed, IfVerdict, IsDue, OrNoMemory, OrWriteFault};
 ghost use Rattle.yartos.specs.Causes.{CallsFor};
 
 use crate::answer::NOT_YET;
 use crate::answer_files::{Unanswered, answer_files};
 use crate::status::Status;
-use crate::words::{Plan, plan_of};
+use crate::words::{Request, request_of};
 use crate::write::tell;
 use std::alloc::Global;
 use yt_io::{Shelf, Sink};
@@ -33,7 +33,7 @@ pub fn yartos<S: Shelf, K: Sink>(
 
     // Each fault has its cause.
     ensures read_fault { result ≡ Status.ReadFault →
-        CannotReadNamed (S.held shelf.old) (plan_of (texts words.now.items)) ⊎ Rose (S.faults shelf.old) (S.faults shelf.new) }
+        CannotReadNamed (S.held shelf.old) (request_of (texts words.now.items)) ⊎ Rose (S.faults shelf.old) (S.faults shelf.new) }
     ensures write_fault { result ≡ Status.WriteFault → Rose (K.faults out.old) (K.faults out.new) }
 
     // Whichever counts rose, a verdict is the one that is due, and its whole text was written and nothing else.
@@ -46,18 +46,19 @@ pub fn yartos<S: Shelf, K: Sink>(
     ensures nothing { result ≡ Status.ReadFault → K.written out.new ≡ K.written out.old }
     ensures no_memory { result ≡ Status.NoMemory → K.written out.new ≡ K.written out.old }
 
-    // Words of no listed form, or of one that isn't built yet, are answered even where there is no memory.
-    ensures no_form { plan_of (texts words.now.items) ≡ misuse → OrWriteFault result Status.Usage }
-    ensures not_built { plan_of (texts words.now.items) ≡ later → OrWriteFault result Status.NotYet }
+    // Words of no listed form, or of one that isn't built yet, are answered even where there is no memory, and no file is read.
+    ensures no_form { request_of (texts words.now.items) ≡ misuse → OrWriteFault result Status.Usage }
+    ensures not_built { request_of (texts words.now.items) ≡ later → OrWriteFault result Status.NotYet }
+    ensures unread { NeedsNoFile (request_of (texts words.now.items)) → shelf.new ≡ shelf.old }
 
     // Where the shelf tells what it holds and no count rises, the status is the one that is called for, unless memory runs out.
     ensures complete { (held : List ℕ → Option (List ℕ)) (due : Status) → S.held shelf.old ≡ Some held → CallsFor held (texts words.now.items) due →
         IsQuiet (S.faults shelf.old) (S.faults shelf.new) → IsQuiet (K.faults out.old) (K.faults out.new) → OrNoMemory result due }
 {
-    match plan_of(words) {
-        Plan::Misuse => tell(out, Status::Usage, USAGE),
-        Plan::Later => tell(out, Status::NotYet, NOT_YET),
-        Plan::Judges(command, names) => match answer_files(alloc, command, names, shelf) {
+    match request_of(words) {
+        Request::Misuse => tell(out, Status::Usage, USAGE),
+        Request::Later => tell(out, Status::NotYet, NOT_YET),
+        Request::Judges(command, names) => match answer_files(alloc, command, names, shelf) {
             Ok(answer) => tell(out, answer.status, answer.text.as_slice()),
             Err(Unanswered::NotRead) => Status::ReadFault,
             Err(Unanswered::NoMemory) => Status::NoMemory,
@@ -66,6 +67,10 @@ pub fn yartos<S: Shelf, K: Sink>(
 }
 
 #[cfg(test)]
+mod asked;
+#[cfg(test)]
 mod edges;
+#[cfg(test)]
+mod handlers;
 #[cfg(test)]
 mod tests;

@@ -2,7 +2,7 @@
 ghost use Rattle.std.specs.Prelude.{◌≡◌, ◌≢◌, ℕ, ℤ, List, ◌≤◌, FitsSigned, IfOk, IsTrue, MatchOption, ◌==◌, position};
 ghost use Rattle.std.specs.Int.{w64};
 ghost use Rattle.yt_run.specs.declared.trace.Message.{Message};
-ghost use Rattle.yartos.specs.FirstText.{is_name};
+ghost use Rattle.yt_graph.specs.Names.{is_name};
 ghost use Rattle.yartos.specs.Split.{IsSplit, lacks};
 ghost use Rattle.yartos.specs.TraceText.{IsTraceText, message_line, one_number};
 

@@ -1,8 +1,8 @@
 //! The forms of the words.
 ghost use Rattle.std.specs.Prelude.{◌≡◌, [], ◌∷◌};
 ghost use Rattle.std.specs.List.{list_all};
-ghost use Rattle.yt_lexer.specs.First.{is_digit};
-ghost use Rattle.yartos.specs.Words.{is_count, is_demo_count, names_file, plan_found, plan_of, texts};
+ghost use Rattle.yt_graph.specs.Names.{is_digit};
+ghost use Rattle.yartos.specs.Words.{is_count, is_demo_count, names_file, request_found, request_of, texts};
 
 use yt_base::{Decimal, digits};
 
@@ -23,7 +23,7 @@ pub(crate) enum Command {
 
 /// What words ask for.
 #[derive(Clone, Copy)]
-pub(crate) enum Plan<'a> {
+pub(crate) enum Request<'a> {
     /// Nothing: they are no listed form.
     Misuse,
     /// A command that isn't built yet.
@@ -33,64 +33,64 @@ pub(crate) enum Plan<'a> {
 }
 
 /// What the words ask for. Takes no memory.
-pub(crate) fn plan_of(words: &[String]) -> Plan<'_>
-    ensures { plan_found result ≡ plan_of (texts words.now) }
+pub(crate) fn request_of(words: &[String]) -> Request<'_>
+    ensures { request_found result ≡ request_of (texts words.now) }
 {
     match words {
-        [command, rest @ ..] => plan_of_command(command.as_str(), rest),
-        [] => Plan::Misuse,
+        [command, rest @ ..] => request_of_command(command.as_str(), rest),
+        [] => Request::Misuse,
     }
 }
 
 /// What a command asks for, by the words behind it.
-fn plan_of_command<'a>(command: &str, rest: &'a [String]) -> Plan<'a>
-    ensures { plan_found result ≡ plan_of (command.now ∷ texts rest.now) }
+fn request_of_command<'a>(command: &str, rest: &'a [String]) -> Request<'a>
+    ensures { request_found result ≡ request_of (command.now ∷ texts rest.now) }
 {
     match rest {
-        [word] => plan_of_one(command, word.as_str(), rest),
-        [first, second] => plan_of_two(command, first.as_str(), second.as_str(), rest),
+        [word] => request_of_one(command, word.as_str(), rest),
+        [first, second] => request_of_two(command, first.as_str(), second.as_str(), rest),
         [graph, trace, tick]
             if command == "stop"
                 && is_file(graph.as_str())
                 && is_file(trace.as_str())
-                && is_count(tick.as_str()) => Plan::Judges(Command::Stop, &rest[..2]),
-        _ => Plan::Misuse,
+                && is_count(tick.as_str()) => Request::Judges(Command::Stop, &rest[..2]),
+        _ => Request::Misuse,
     }
 }
 
 /// What a command asks for with one word.
-fn plan_of_one<'a>(command: &str, word: &str, files: &'a [String]) -> Plan<'a>
+fn request_of_one<'a>(command: &str, word: &str, files: &'a [String]) -> Request<'a>
     requires { texts files.now ≡ word.now ∷ [] }
-    ensures { plan_found result ≡ plan_of (command.now ∷ word.now ∷ []) }
+    ensures { request_found result ≡ request_of (command.now ∷ word.now ∷ []) }
 {
     let is_file = is_file(word);
     if command == "form" && is_file {
-        Plan::Judges(Command::Form, files)
+        Request::Judges(Command::Form, files)
     } else if command == "tasks" && is_file {
-        Plan::Judges(Command::Tasks, files)
+        Request::Judges(Command::Tasks, files)
     } else if command == "check" && is_file {
-        Plan::Judges(Command::Check, files)
+        Request::Judges(Command::Check, files)
     } else if (command == "set" || command == "replay") && is_file {
-        Plan::Later
+        Request::Later
     } else if command == "demo" && is_demo_count(word) {
-        Plan::Later
+        Request::Later
     } else {
-        Plan::Misuse
+        Request::Misuse
     }
 }
 
 /// What a command asks for with two words.
-fn plan_of_two<'a>(command: &str, first: &str, second: &str, files: &'a [String]) -> Plan<'a>
+fn request_of_two<'a>(command: &str, first: &str, second: &str, files: &'a [String]) -> Request<'a>
     requires { texts files.now ≡ first.now ∷ second.now ∷ [] }
-    ensures { plan_found result ≡ plan_of (command.now ∷ first.now ∷ second.now ∷ []) }
+    ensures { request_found result ≡ request_of (command.now ∷ first.now ∷ second.now ∷ []) }
 {
     let are_files = is_file(first) && is_file(second);
     if command == "run" && are_files {
-        Plan::Judges(Command::Run, files)
+        Request::Judges(Command::Run, files)
     } else if command == "play" && are_files {
-        Plan::Later
+        Request::Later
     } else {
-        Plan::Misuse
+        Request::Misuse
     }
 }
 
@@ -143,11 +143,11 @@ mod tests {
         Judges(Command, usize),
     }
 
-    fn asked_by(plan: Plan) -> Asked {
-        match plan {
-            Plan::Misuse => Asked::Misuse,
-            Plan::Later => Asked::Later,
-            Plan::Judges(command, files) => Asked::Judges(command, files.len()),
+    fn asked_by(request: Request) -> Asked {
+        match request {
+            Request::Misuse => Asked::Misuse,
+            Request::Later => Asked::Later,
+            Request::Judges(command, files) => Asked::Judges(command, files.len()),
         }
     }
 
@@ -207,9 +207,9 @@ mod tests {
             for word in line.split(' ') {
                 words.push(String::from_str(rt.alloc(), word)?)?;
             }
-            assert_eq!(rt; asked_by(plan_of(&words)), *wanted, "at {line}");
+            assert_eq!(rt; asked_by(request_of(&words)), *wanted, "at {line}");
         }
-        assert_eq!(rt; asked_by(plan_of(&[])), Asked::Misuse);
+        assert_eq!(rt; asked_by(request_of(&[])), Asked::Misuse);
         Ok(())
     }
 }

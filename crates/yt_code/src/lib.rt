@@ -14,7 +14,6 @@ mod pile;
 mod stepped;
 #[cfg(test)]
 mod tests;
-mod value;
 
 pub use code::Code;
 pub use instr::{Instr, Instrs};

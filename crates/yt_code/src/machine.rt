@@ -12,10 +12,9 @@ use crate::instr::Instr;
 use crate::outbox::Outbox;
 use crate::pile::Pile;
 use crate::stepped::Stepped;
-use crate::value::{inverted, negated, turns_made, two};
 use arrayvec::ArrayVec;
 use std::marker::Model;
-use yt_graph::Op2;
+use yt_graph::{Op2, applied, inverted, negated, turns_made};
 
 /// A machine that steps through the code of a handler. A contract sees its state between two ticks.
 #[derive(Drop)]
@@ -189,7 +188,7 @@ impl Machine {
     {
         let y = self.stack.pop();
         let x = self.pop();
-        self.stack.push(two(op, x, y));
+        self.stack.push(applied(op, x, y));
     }
 
     fn send<B: Outbox>(&mut self, o: u32, width: u32, out: &mut B)

@@ -1,11 +1,13 @@
 -- A well-formed port's handler names variables of the port's process alone, and none where the port is under no resource.
-use Rattle.std.proofs.Common.{◌≡◌, ℕ, zero, suc, ◌+◌, ◌<◌, ◌≤◌, Bool, true, false, List, [], ◌∷◌, ◌++◌, length, refl, sym, ap, ◌∙◌, subst, arith}
-use Rattle.std.specs.Prelude.{◌||◌, slice_index_or}
+use Rattle.std.proofs.Common.{◌≡◌, ℕ, zero, suc, Bool, true, false, List, [], ◌∷◌, ◌++◌, refl, sym, ap, ◌∙◌, subst, arith}
+use Rattle.std.specs.Prelude.{◌||◌}
 use Rattle.std.specs.List.{All}
 use Rattle.std.proofs.lemmas.List.Elements.{All-append}
 use Rattle.yt_graph.specs.Picture.{ExprTree, num, local, var, neg, lnot, two, call, ExprsTree, no_exprs, more_exprs, StmtTree, set_local, set_var, send, if_only, if_else, repeat, BlockTree, empty, more, PortTree, GraphTree}
-use Rattle.yt_graph.specs.WellFormed.{expr_uses_var, exprs_use_var, stmt_uses_var, block_uses_var, IsVarOf, IsFineExpr, AreFineExprs, IsFineStmt, IsFineBlock, IsFineGroup}
-use Rattle.yt_cost.specs.CodeVars.{expr_vars, exprs_vars, stmt_vars, block_vars, instrs_vars, CompiledUsesOwnVars}
+use Rattle.yt_graph.specs.WellFormed.{expr_uses_var, exprs_use_var, stmt_uses_var, block_uses_var, IsVarOf, IsFinePort, IsFineExpr, AreFineExprs, IsFineStmt, IsFineBlock, IsFineGroup}
+use Rattle.yt_code.specs.Valid.{Program}
+use Rattle.yt_cost.specs.Code.{port_code}
+use Rattle.yt_cost.specs.CodeVars.{expr_vars, exprs_vars, stmt_vars, block_vars, UsesVarsOf, UsesOwnVars, CompiledUsesOwnVars}
 use Rattle.yt_cost.proofs.CodeFits.{or_false}
 use Rattle.yt_cost.proofs.CodeUses.{uses_vars}
 
@@ -100,10 +102,12 @@ no_use : (g : GraphTree) (p : PortTree) (b : Bool) → IsFineGroup g p b → p.g
 no_use g p true h e = absurd (omega (arith, h.0, e))
 no_use g p false h e = refl
 
+-- so code that uses the variables which such a port's handler names keeps to the port's process
+pub owns : (g : GraphTree) (p : PortTree) (code : Program) → IsFinePort g p → UsesVarsOf code p → UsesOwnVars g code p
+owns g p code fine same = record {
+  of_process = subst (λ xs. All (IsVarOf g p.process) xs) (sym same) (block_own g p p.body fine.10);
+  none = λ e. same ∙ block_none p.body (no_use g p (block_uses_var p.body) fine.11 e);
+}
+
 pub uses_own : CompiledUsesOwnVars
-uses_own g p vars fine =
-    let same = uses_vars vars p in
-    record {
-      of_process = subst (λ xs. All (IsVarOf g p.process) xs) (sym same) (block_own g p p.body fine.10);
-      none = λ e. same ∙ block_none p.body (no_use g p (block_uses_var p.body) fine.11 e);
-    }
+uses_own g p vars fine = owns g p (port_code vars p) fine (uses_vars vars p)

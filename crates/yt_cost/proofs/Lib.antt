@@ -10,4 +10,6 @@ pub mod CodeShort
 pub mod CodeMade
 pub mod CodeKeeps
 pub mod Examples
+pub mod Compiled
+pub mod NestedLemmas
 pub mod CodeOwn

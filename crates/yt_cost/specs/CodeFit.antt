@@ -1,5 +1,6 @@
 -- The handlers that can be compiled, and that their code is valid.
 use Rattle.std.specs.Prelude.{◌≡◌, ℕ, ◌≤◌, Bool, true, false, ◌||◌, length}
+use Rattle.std.specs.List.{All}
 use Rattle.yt_graph.specs.Picture.{ExprTree, num, local, var, neg, lnot, two, call, ExprsTree, no_exprs, more_exprs, StmtTree, set_local, set_var, send, if_only, if_else, repeat, BlockTree, empty, more, PortTree, GraphTree}
 use Rattle.yt_graph.specs.WellFormed.{IsFinePort}
 use Rattle.yt_graph.specs.Cost.{greatest_cost}
@@ -33,6 +34,10 @@ abbrev mutual
   pub block_calls : BlockTree → Bool
   block_calls empty = false
   block_calls (more a rest) = stmt_calls a || block_calls rest
+
+-- no handler of the graph calls an operator
+abbrev pub HasNoCalls : GraphTree → Type 0
+HasNoCalls graph = All (λ p. block_calls p.body ≡ false) graph.ports
 
 -- the handler is that of a well-formed port in a graph with so many variables, calls no operator, and takes 1,000,000 ticks at most
 pub record IsHandlerFit (vars : ℕ) (port : PortTree) : Type 0 where

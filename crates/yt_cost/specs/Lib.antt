@@ -3,3 +3,6 @@ pub mod Code
 pub mod CodeFit
 pub mod CodeAlone
 pub mod CodeVars
+pub mod Codes
+pub mod Faults
+pub mod Nested

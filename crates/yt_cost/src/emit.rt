@@ -14,7 +14,7 @@ use yt_code::{Code, Instr, Instrs};
 use yt_graph::{Expr, ExprParts, Parts, Port, Stmt, open, open_expr};
 
 /// The code of a port's handler, in a graph with so many variables.
-pub fn compile_port(alloc: Global, port: &Port, vars: u32) -> Result<Code, AllocError>
+pub(crate) fn compile_port(alloc: Global, port: &Port, vars: u32) -> Result<Code, AllocError>
     requires { IsHandlerFit vars (port_tree port.now) }
     ensures code { IfOk result (λ code. code ≡ port_code vars (port_tree port.now)) }
     ensures meaning { IfOk result (λ code. MeansPort code (port_tree port.now)) }

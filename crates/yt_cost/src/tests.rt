@@ -33,7 +33,7 @@ fn sending(alloc: Global) -> Result<Block, AllocError>
 }
 
 // A name of one letter.
-fn letter(alloc: Global, byte: u8) -> Result<Name, AllocError>
+pub(crate) fn letter(alloc: Global, byte: u8) -> Result<Name, AllocError>
     ensures { IfOk result (λ name. name ≡ byte ∷ []) }
 {
     Ok(Name::from_vec(vec![in alloc; byte]?))

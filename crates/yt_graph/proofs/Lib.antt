@@ -2,5 +2,5 @@ pub mod AstPictures
 mod Examples
 pub mod Lengths
 pub mod Pictures
-pub mod Values
+pub mod Wrapping
 pub mod Within

@@ -8,11 +8,11 @@ use Rattle.yt_graph.specs.declared.ast.Source as source
 use Rattle.yt_graph.specs.declared.ast.Source.{Source}
 use Rattle.yt_graph.specs.declared.ast.OutDecl.{OutDecl}
 use Rattle.yt_graph.specs.AstPicture.{AstExprTree, number, name, minus, negation, two_sides, paren, call_of, AstExprsTree, no_values, more_values, AstStmtTree, let_local, assign, send_on, when_only, when_else, turns, AstBlockTree, no_stmts, more_stmts, PortDeclTree, ItemTree, input, output, resource, process}
-use Rattle.yt_graph.specs.WellFormed.{is_word}
+use Rattle.yt_graph.specs.Names.{is_name}
 
--- 1 to 32 letters, digits and `_`, no digit first
+-- a word that may name something
 abbrev pub IsName : Word → Type 0
-IsName w = IsTrue (is_word w.text)
+IsName w = IsTrue (is_name w.text)
 
 -- a number that is written has no sign
 abbrev pub IsWrittenNumber : ℤ → Type 0
@@ -57,19 +57,19 @@ abbrev mutual
 abbrev pub IsWritableValue : AstExprTree → Type 0
 IsWritableValue e = (ast_expr_depth e ≤ 32) × IsWritableExpr e
 
--- the depth of a block: 1, or 1 more than that of a block in it
+-- how many blocks stand in each other inside a statement or a block
 abbrev mutual
   pub ast_stmt_depth : AstStmtTree → ℕ
   ast_stmt_depth (let_local w e) = 0
   ast_stmt_depth (assign w e) = 0
   ast_stmt_depth (send_on w es) = 0
-  ast_stmt_depth (when_only e first) = ast_block_depth first
-  ast_stmt_depth (when_else e first second) = max (ast_block_depth first) (ast_block_depth second)
-  ast_stmt_depth (turns e most body) = ast_block_depth body
+  ast_stmt_depth (when_only e first) = 1 + ast_block_depth first
+  ast_stmt_depth (when_else e first second) = 1 + max (ast_block_depth first) (ast_block_depth second)
+  ast_stmt_depth (turns e most body) = 1 + ast_block_depth body
 
   pub ast_block_depth : AstBlockTree → ℕ
-  ast_block_depth no_stmts = 1
-  ast_block_depth (more_stmts s rest) = max (1 + ast_stmt_depth s) (ast_block_depth rest)
+  ast_block_depth no_stmts = 0
+  ast_block_depth (more_stmts s rest) = max (ast_stmt_depth s) (ast_block_depth rest)
 
 abbrev mutual
   pub IsWritableStmt : AstStmtTree → Type 0
@@ -99,7 +99,7 @@ abbrev pub IsWritableOut : OutDecl → Type 0
 IsWritableOut o = IsName o.name × IsWrittenNumber o.width.value × IsWritableEvery o.every
 
 abbrev pub IsWritablePort : PortDeclTree → Type 0
-IsWritablePort p = IsName p.name × IsWritableSource p.source × All IsName p.params × All IsWritableOut p.outs × (ast_block_depth p.body ≤ 8) × IsWritableBlock p.body
+IsWritablePort p = IsName p.name × IsWritableSource p.source × All IsName p.params × All IsWritableOut p.outs × (1 + ast_block_depth p.body ≤ 8) × IsWritableBlock p.body
 
 abbrev pub IsWritableInside : Option Word → Type 0
 IsWritableInside None = Unit {0}

@@ -7,3 +7,4 @@ pub mod Parts
 pub mod Meaning
 pub mod Cost
 pub mod Reserved
+pub mod Names

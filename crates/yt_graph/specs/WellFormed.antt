@@ -1,6 +1,7 @@
 -- When a graph is well formed: its names differ, its numbers name things that are there, and all is within its limits.
-use Rattle.std.specs.Prelude.{◌≡◌, ℕ, zero, suc, ◌+◌, ◌<◌, ◌≤◌, max, Bool, true, false, ◌&&◌, ◌||◌, ◌==◌, nat_le, IsTrue, List, [], ◌∷◌, ◌++◌, length, map, slice_get, bytes_eq, IsSomeAnd}
-use Rattle.std.specs.List.{All, list_all, list_any}
+use Rattle.std.specs.Prelude.{◌≡◌, ℕ, zero, suc, ◌+◌, ◌<◌, ◌≤◌, ◌-◌, max, Bool, true, false, ◌&&◌, ◌||◌, IsTrue, List, [], ◌∷◌, ◌++◌, length, map, slice_get, bytes_eq, IsSomeAnd}
+use Rattle.std.specs.List.{All, list_any}
+use Rattle.yt_graph.specs.Names.{is_name}
 use Rattle.yt_graph.specs.declared.port.Feed as feed
 use Rattle.yt_graph.specs.declared.port.Feed.{Feed}
 use Rattle.yt_graph.specs.declared.port.OutHead.{OutHead}
@@ -39,18 +40,6 @@ abbrev mutual
 -- a number from one on and up to another
 abbrev pub IsWithin : ℕ → ℕ → ℕ → Type 0
 IsWithin low high n = (low ≤ n) × (n ≤ high)
-
--- a letter or `_`
-abbrev pub is_letter : ℕ → Bool
-is_letter b = (nat_le 65 b && nat_le b 90) || ((nat_le 97 b && nat_le b 122) || (b == 95))
-
-abbrev pub is_name_byte : ℕ → Bool
-is_name_byte b = is_letter b || (nat_le 48 b && nat_le b 57)
-
--- 1 to 32 letters, digits and `_`, no digit first
-abbrev pub is_word : List ℕ → Bool
-is_word [] = false
-is_word (b ∷ bs) = is_letter b && (list_all is_name_byte bs && nat_le (length bs) 31)
 
 -- no two are the same
 abbrev pub AreDifferent : List (List ℕ) → Type 0
@@ -149,7 +138,7 @@ IsFeedOfWidth g count (feed.TheVariants.Input n) = (a : ℕ) × (n ≡ suc a) ×
 IsFeedOfWidth g count (feed.TheVariants.Out port out) = IsOutAnd g port out (λ o. o.width ≡ count)
 
 abbrev pub IsFineOut : OutHead → Type 0
-IsFineOut o = IsTrue (is_word o.name) × (o.width ≤ 8) × IsWithin 1 1000 o.every
+IsFineOut o = IsTrue (is_name o.name) × (o.width ≤ 8) × IsWithin 1 1000 o.every
 
 -- a port that uses a variable is under a resource that is there, and one that uses none is under none
 abbrev pub IsFineGroup : GraphTree → PortTree → Bool → Type 0
@@ -168,7 +157,7 @@ EndsWithin g (suc n) (feed.TheVariants.Out port out) = (a : ℕ) × (port ≡ su
 
 abbrev pub IsFinePort : GraphTree → PortTree → Type 0
 IsFinePort g p =
-    IsTrue (is_word p.process) × IsTrue (is_word p.name)
+    IsTrue (is_name p.process) × IsTrue (is_name p.name)
     × IsFeedOfWidth g p.params p.feed × EndsWithin g (length g.ports) p.feed
     × (p.params ≤ p.locals) × (p.locals ≤ 16)
     × (length p.outs ≤ 8) × AreDifferent (map (λ o. o.name) p.outs) × All IsFineOut p.outs
@@ -176,17 +165,23 @@ IsFinePort g p =
     × IsFineGroup g p (block_uses_var p.body) × All (IsUnderOne p) g.ports
 
 abbrev pub IsFineInput : graph.Input.Input → Type 0
-IsFineInput i = IsTrue (is_word i.name) × (i.width ≤ 8) × IsWithin 1 1000000 i.period
+IsFineInput i = IsTrue (is_name i.name) × (i.width ≤ 8) × IsWithin 1 1000000 i.period
 
 abbrev pub IsFineOutput : GraphTree → graph.Output.Output → Type 0
-IsFineOutput g o = IsTrue (is_word o.name) × IsOutAnd g o.port o.out (λ _. Unit {0})
+IsFineOutput g o = IsTrue (is_name o.name) × IsOutAnd g o.port o.out (λ _. Unit {0})
+
+-- a process whose name a resource has is that resource itself: it has variables, and is under no other
+abbrev pub IsOwnGroup : GraphTree → PortTree → Type 0
+IsOwnGroup g p =
+    list_any (bytes_eq p.process) g.groups ≡ true
+    → (list_any (λ v. bytes_eq p.process v.process) g.vars ≡ true) × (block_uses_var p.body ≡ true → IsSomeAnd (slice_get g.groups (p.group - 1)) (λ name. name ≡ p.process))
 
 -- the names of inputs and outputs, of which no process has one
 abbrev pub outer_names : GraphTree → List (List ℕ)
 outer_names g = map (λ i. i.name) g.inputs ++ map (λ o. o.name) g.outputs
 
 abbrev pub IsFineVar : GraphTree → graph.Var.Var → Type 0
-IsFineVar g v = IsTrue (is_word v.process) × IsTrue (is_word v.name) × (list_any (bytes_eq v.process) (outer_names g) ≡ false)
+IsFineVar g v = IsTrue (is_name v.process) × IsTrue (is_name v.name) × (list_any (bytes_eq v.process) (outer_names g) ≡ false)
 
 -- a graph has at most 16 inputs and outputs each, 32 declared resources and 64 of processes, 256 variables and 64 ports
 pub record IsCounted (g : GraphTree) : Type 0 where
@@ -199,8 +194,9 @@ pub record IsCounted (g : GraphTree) : Type 0 where
 pub record IsWellFormed (g : GraphTree) : Type 0 where
   pub counts : IsCounted g
   pub names : AreDifferent (outer_names g ++ g.groups)
-  pub group_words : All (λ name. IsTrue (is_word name)) g.groups
+  pub group_names : All (λ name. IsTrue (is_name name)) g.groups
   pub processes : All (λ p. list_any (bytes_eq p.process) (outer_names g) ≡ false) g.ports
+  pub own_groups : All (IsOwnGroup g) g.ports
   pub port_names : AreDifferentWithin (map (λ p. (p.process, p.name)) g.ports)
   pub var_names : AreDifferentWithin (map (λ v. (v.process, v.name)) g.vars)
   pub each_input : All IsFineInput g.inputs

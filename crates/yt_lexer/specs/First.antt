@@ -4,6 +4,7 @@ use Rattle.std.specs.List.{prefix_len}
 use Rattle.yt_base.specs.Digits.{signed_of_text}
 use Rattle.yt_base.specs.Lines.{is_feed}
 use Rattle.yt_graph.specs.declared.place.Place.{Place}
+pub use Rattle.yt_graph.specs.Names.{is_letter, is_digit, is_word_byte, is_name}
 pub use Rattle.yt_graph.specs.Reserved.{reserved_words, is_reserved}
 use Rattle.yt_lexer.specs.declared.token.TokenKind.{TokenKind}
 use Rattle.yt_lexer.specs.declared.token.TokenKind.TheVariants.{Word, Key, Number, Symbol}
@@ -29,22 +30,6 @@ blank_len_in comment (b ∷ bs) = if is_blank comment b then 1 + blank_len_in (i
 
 abbrev pub blank_len : List ℕ → ℕ
 blank_len text = blank_len_in false text
-
--- an ASCII letter or `_`
-abbrev pub is_letter : ℕ → Bool
-is_letter c = (nat_le 65 c && nat_le c 90) || ((nat_le 97 c && nat_le c 122) || (c == 95))
-
-abbrev pub is_digit : ℕ → Bool
-is_digit c = nat_le 48 c && nat_le c 57
-
--- a byte that a word goes on with
-abbrev pub is_word_byte : ℕ → Bool
-is_word_byte c = is_letter c || is_digit c
-
--- a word that names something: at most 32 letters, digits and `_`, no digit first, and not reserved
-abbrev pub is_name : List ℕ → Bool
-is_name [] = false
-is_name (b ∷ bs) = is_letter b && ((prefix_len is_word_byte (b ∷ bs) == length (b ∷ bs)) && (nat_le (length (b ∷ bs)) 32 && not (is_reserved (b ∷ bs))))
 
 -- `<=`, `>=`, `==` and `!=` are these bytes with `=` behind them
 abbrev pub takes_equals : ℕ → Bool

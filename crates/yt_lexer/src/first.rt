@@ -1,11 +1,11 @@
 //! The token at the front of a text.
 ghost use Rattle.std.specs.Prelude.{◌≡◌, ◌≤◌, ◌<◌, length, IfOk};
 ghost use Rattle.std.specs.List.{prefix_len};
-ghost use Rattle.yt_lexer.specs.First.{is_letter, is_digit, is_word_byte, is_name, takes_equals, is_symbol, symbol_len, word_token, number_token, symbol_token, first_token};
+ghost use Rattle.yt_lexer.specs.First.{is_digit, is_word_byte, takes_equals, is_symbol, symbol_len, word_token, number_token, symbol_token, first_token};
 
 use crate::token::{LexFault, TokenKind};
 use yt_base::signed;
-use yt_graph::{Place, reserved};
+use yt_graph::{Place, is_letter, is_word_byte, reserved};
 
 /// How many bytes a word has at most.
 const WORD_ROOM: usize = 32;
@@ -104,36 +104,9 @@ fn is_symbol(b: u8) -> bool
     matches!(b, b'('..=b'/' | b'<'..=b'>' | b'%' | b'{' | b'}')
 }
 
-/// Whether a byte is a letter, a digit or `_`.
-fn is_word_byte(b: u8) -> bool
-    ensures { result ≡ is_word_byte b }
-{
-    is_letter(b) || is_digit(b)
-}
-
-/// Whether a byte is a letter or `_`.
-fn is_letter(b: u8) -> bool
-    ensures { result ≡ is_letter b }
-{
-    b.is_ascii_alphabetic() || b == b'_'
-}
-
 /// Whether a byte is a decimal digit.
 fn is_digit(b: u8) -> bool
     ensures { result ≡ is_digit b }
 {
     b.is_ascii_digit()
-}
-
-/// Whether a word names something: at most 32 letters, digits and `_`, no digit first, and not reserved.
-pub fn is_name(word: &[u8]) -> bool
-    ensures { result ≡ is_name word.now }
-{
-    match word {
-        [] => false,
-        [b, ..] => is_letter(*b)
-            && word_len(word) == word.len()
-            && word.len() <= WORD_ROOM
-            && !reserved(word),
-    }
 }

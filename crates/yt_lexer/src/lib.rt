@@ -10,7 +10,6 @@ mod lexing;
 mod places;
 mod token;
 
-pub use first::is_name;
 pub use lexing::lex;
 pub use places::end_place;
 pub use token::{LexFault, Token, TokenKind, Tokens};

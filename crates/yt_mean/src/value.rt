@@ -2,70 +2,12 @@
 
 ghost use Rattle.std.specs.Prelude.{◌≡◌, ◌^◌, ◌<◌, pos, length, slice_index_or, IfOk};
 ghost use Rattle.yt_graph.specs.Picture.{expr_tree, exprs_tree};
-ghost use Rattle.yt_graph.specs.Meaning.{
-  neg_value,
-  not_value,
-  two_value,
-  op_value,
-  expr_value,
-  all_values,
-  expr_ticks,
-  all_ticks,
-};
+ghost use Rattle.yt_graph.specs.Meaning.{expr_value, all_values, expr_ticks, all_ticks};
 ghost use Rattle.yt_mean.specs.Within.{IsExprWithin, AreExprsWithin};
 
 use std::alloc::{AllocError, Global};
-use yt_graph::{Expr, ExprParts, Op2, open_expr};
+use yt_graph::{Expr, ExprParts, applied, inverted, negated, open_expr, operator_value};
 use yt_list::Vals;
-
-// The number with the other sign.
-fn neg(x: i64) -> i64
-    ensures { result ≡ neg_value x }
-{
-    x.wrapping_neg()
-}
-
-// 1 for 0, else 0.
-fn not(x: i64) -> i64
-    ensures { result ≡ not_value x }
-{
-    i64::from(x == 0)
-}
-
-// The value of an operator between two numbers.
-fn two(op: Op2, x: i64, y: i64) -> i64
-    ensures { result ≡ two_value op x y }
-{
-    match op {
-        Op2::Or => i64::from(x != 0 || y != 0),
-        Op2::And => i64::from(x != 0 && y != 0),
-        Op2::Lt => i64::from(x < y),
-        Op2::Le => i64::from(x <= y),
-        Op2::Gt => i64::from(x > y),
-        Op2::Ge => i64::from(x >= y),
-        Op2::Eq => i64::from(x == y),
-        Op2::Ne => i64::from(x != y),
-        Op2::Add => x.wrapping_add(y),
-        Op2::Sub => x.wrapping_sub(y),
-        Op2::Mul => x.wrapping_mul(y),
-        Op2::Div => { if y == 0 { 0 } else { x.wrapping_div(y) } }
-        Op2::Rem => { if y == 0 { 0 } else { x.wrapping_rem(y) } }
-    }
-}
-
-// The value of the operator with this code.
-fn operator(code: u32, x: i64, y: i64) -> i64
-    ensures { result ≡ op_value code x y }
-{
-    match code {
-        1 => x.min(y),
-        2 => x.max(y),
-        3 => x.max(y).wrapping_sub(x.min(y)),
-        4 => { if x < 0 { x.wrapping_neg() } else { x } }
-        5 => x.signum(),
-        _ => 0,
-    }
-}
 
 /// The value of an expression.
 #[cycle(evaluate)]
@@ -77,10 +19,10 @@ pub fn value(e: &Expr, locals: &[i64], vars: &[i64]) -> i64
         ExprParts::Num(n) => n,
         ExprParts::Local(i) => locals[i as usize],
         ExprParts::Var(i) => vars[i as usize],
-        ExprParts::Neg(e) => neg(value(e, locals, vars)),
-        ExprParts::Not(e) => not(value(e, locals, vars)),
-        ExprParts::Two(op, l, r) => two(op, value(l, locals, vars), value(r, locals, vars)),
-        ExprParts::Call(_, code, _, args) => operator(
+        ExprParts::Neg(e) => negated(value(e, locals, vars)),
+        ExprParts::Not(e) => inverted(value(e, locals, vars)),
+        ExprParts::Two(op, l, r) => applied(op, value(l, locals, vars), value(r, locals, vars)),
+        ExprParts::Call(_, code, _, args) => operator_value(
             code,
             argument(args, 0, locals, vars),
             argument(args, 1, locals, vars),

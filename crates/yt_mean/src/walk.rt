@@ -11,7 +11,7 @@ use crate::handled::Handled;
 use crate::value::{ticks, value, values, values_ticks};
 use std::alloc::{AllocError, Global};
 use std::marker::Model;
-use yt_graph::{Expr, Parts, SendItem, Sends, Stmt, open};
+use yt_graph::{Expr, Parts, SendItem, Sends, Stmt, open, turns_made};
 use yt_list::Vals;
 
 /// A handler on its way. A contract sees how far it has come.
@@ -124,14 +124,7 @@ impl Walk {
         ensures spent { self.new ≡ after (spend (expr_ticks (expr_tree count.now) + 1)) self.old }
     {
         self.ticks += ticks(count) + 1;
-        let n = value(count, &self.locals, &self.vars);
-        if n < 0 {
-            0
-        } else if n < i64::from(max) {
-            n as u32
-        } else {
-            max
-        }
+        turns_made(value(count, &self.locals, &self.vars), max)
     }
 
     // Walks a statement.

@@ -61,7 +61,7 @@ no_steps jump [] = refl
 no_steps jump (a ∷ rest) = ap (λ r. a ∷ r) (no_steps jump rest)
 
 -- a chain that has ended goes nowhere
-ended : (before : List (Option ℕ)) (n : ℕ) → steps_back before n None ≡ None
+pub ended : (before : List (Option ℕ)) (n : ℕ) → steps_back before n None ≡ None
 ended before zero = refl
 ended before (suc n) = ended before n
 

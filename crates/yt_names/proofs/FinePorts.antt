@@ -20,7 +20,7 @@ use Rattle.yt_names.specs.declared.fault.NameFault.TheVariants.{Cycle, Twice, Li
 use Rattle.yt_names.specs.declared.meant.Meant.{Meant}
 use Rattle.yt_names.specs.declared.meant.Meant.TheVariants.{Local, Var as Variable, Nothing}
 use Rattle.yt_names.specs.Names.{first_of, with_name, item_names, port_names, out_names}
-use Rattle.yt_names.specs.Paths.{placed_from, ports_of, all_ports, ports_before, comes_back, source_width}
+use Rattle.yt_names.specs.Paths.{placed_from, ports_of, ports_before, comes_back, source_width}
 use Rattle.yt_names.specs.declared.room.Room.{Room}
 use Rattle.yt_names.specs.Handlers.{Env, handler_faults, params_faults, block_faults, visible_params, local_faults, is_known, left_after, left_after_block}
 use Rattle.yt_names.specs.Faults.{declared_faults, width_faults, inside_faults, vars_faults, every_faults, range_faults, out_faults, outs_faults, outs_room, port_faults, ports_faults, item_faults, items_faults, room_after, full_room, name_faults}
@@ -92,7 +92,7 @@ set_depth (Local place) e = refl
 set_depth (Variable place) e = refl
 set_depth Nothing e = refl
 
--- blocks that are resolved are no deeper than those that were written
+-- blocks that are resolved are no deeper than those that were written; the block of the handler itself counts as one
 mutual
   stmt_falls_in : (scope : Scope) (v : List NamedPlace) (l : ℕ) (s : AstStmtTree) → stmt_depth (resolved_stmt scope v l s) ≤ ast_stmt_depth s
   stmt_falls_in scope v l (let_local w e) = omega arith
@@ -102,7 +102,7 @@ mutual
   stmt_falls_in scope v l (when_else e first second) = omega (arith, block_falls_in scope v l first, block_falls_in scope v (left_after_block l first) second)
   stmt_falls_in scope v l (turns e most body) = block_falls_in scope v l body
 
-  block_falls_in : (scope : Scope) (v : List NamedPlace) (l : ℕ) (b : AstBlockTree) → block_depth (resolved_block scope v l b) ≤ ast_block_depth b
+  block_falls_in : (scope : Scope) (v : List NamedPlace) (l : ℕ) (b : AstBlockTree) → block_depth (resolved_block scope v l b) ≤ 1 + ast_block_depth b
   block_falls_in scope v l no_stmts = omega arith
   block_falls_in scope v l (more_stmts s rest) = omega (arith, stmt_falls_in scope v l s, block_falls_in scope (locals_after v l s) (left_after l s) rest)
 
@@ -123,7 +123,7 @@ module _ (g : GraphTree) (all : List ItemTree) (ops : List OpHead) (few : length
       let q = resolved_port all owner key ops vars (length before) p in
       let named = no_part (declared_faults p.name number (first_of p.name.text first (port_names ports)) left limit.TheVariants.Ports) _ none in
       let wide = no_part (width_faults p.name (length p.params) (source_width all p.source)) _ named.1 in
-      let later = (no_part (fault_if (comes_back (ports_before all (all_ports all)) number) (Cycle p.name.place)) _ wide.1).1 in
+      let later = (no_part (fault_if (comes_back (ports_before all) number) (Cycle p.name.place)) _ wide.1).1 in
       let outs = no_part (outs_faults p.outs 0 outs_room p.outs) (handler_faults env p.params p.body) later in
       let handler = no_part (params_faults env [] 16 p.params) (block_faults env (visible_params [] p.params) (16 - length p.params) p.body) outs.1 in
       let final = left_after_block (16 - length p.params) p.body in

@@ -18,11 +18,6 @@ pub none_noted : (old : Option NameFault) → least_with [] old ≡ old
 unfolding least_with
 none_noted old = refl
 
--- one fault
-pub one_noted : (fault : NameFault) (old : Option NameFault) → least_with (fault ∷ []) old ≡ Some (lesser fault old)
-unfolding least_with
-one_noted fault old = refl
-
 -- a turn of a loop over things with faults, where `front` are the faults of what is left before it and `rest` after it
 pub next : (a rest front : List NameFault) (old new end : Option NameFault) → front ≡ a ++ rest → new ≡ least_with a old → least_with front old ≡ end → least_with rest new ≡ end
 next a rest front old new end e p h = ap (least_with rest) p ∙ sym (least_with-append a rest old) ∙ ap (λ l. least_with l old) (sym e) ∙ h

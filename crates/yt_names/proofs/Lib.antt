@@ -1,5 +1,6 @@
 pub mod BuildLemmas
 pub mod ChainLemmas
+pub mod CycleLemmas
 mod Examples
 pub mod FineBlocks
 pub mod FineLemmas

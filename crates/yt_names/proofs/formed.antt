@@ -6,4 +6,5 @@ pub mod Groups
 pub mod Lists
 pub mod Names
 pub mod NoVars
+pub mod Own
 pub mod Places

@@ -14,7 +14,7 @@ use Rattle.yt_names.specs.declared.fault.LimitKind.{LimitKind}
 use Rattle.yt_names.specs.declared.room.Room.{Room}
 use Rattle.yt_names.specs.First.{fault_if}
 use Rattle.yt_names.specs.Names.{first_of, is_other, item_names, port_names, var_names, out_names}
-use Rattle.yt_names.specs.Paths.{Placed, placed_from, placed_named, look_up, source_width, ports_before, all_ports, comes_back}
+use Rattle.yt_names.specs.Paths.{Placed, placed_from, placed_named, look_up, source_width, ports_before, comes_back}
 use Rattle.yt_names.specs.Handlers.{is_outside, handler_faults}
 
 -- how many more of each a graph may declare that has none
@@ -89,7 +89,7 @@ abbrev pub port_faults : List ItemTree → List OpHead → List VarDecl → List
 port_faults all ops vars ports first number left p =
     declared_faults p.name number (first_of p.name.text first (port_names ports)) left limit.TheVariants.Ports
     ++ (width_faults p.name (length p.params) (source_width all p.source)
-    ++ (fault_if (comes_back (ports_before all (all_ports all)) number) (Cycle p.name.place)
+    ++ (fault_if (comes_back (ports_before all) number) (Cycle p.name.place)
     ++ (outs_faults p.outs 0 outs_room p.outs
     ++ handler_faults (record { vars = vars; outs = p.outs; ops = ops }) p.params p.body)))
 

@@ -1,10 +1,11 @@
--- What every graph without a fault keeps to.
-use Rattle.std.specs.Prelude.{◌≡◌, ◌^◌, ◌<◌, List, [], length}
+-- What every graph without a fault keeps to, and which chains of sources come back.
+use Rattle.std.specs.Prelude.{◌≡◌, ℕ, ◌^◌, ◌<◌, true, List, [], length, Option}
 use Rattle.std.specs.List.{All}
 use Rattle.yt_graph.specs.declared.operator.OpHead.{OpHead}
 use Rattle.yt_graph.specs.AstPicture.{ItemTree}
 use Rattle.yt_graph.specs.AstWellFormed.{IsWritable}
 use Rattle.yt_graph.specs.WellFormed.{IsWithin, IsWellFormed}
+use Rattle.yt_names.specs.Paths.{comes_back, LeadsIntoCycle}
 use Rattle.yt_names.specs.Faults.{name_faults}
 use Rattle.yt_names.specs.Resolved.{resolved}
 
@@ -19,3 +20,7 @@ AreFineHeads ops = (length ops < 2 ^ 32) × All IsFineHead ops
 -- the graph of a tree without a fault is well formed, where the tree is one that a text can have
 abbrev pub ResolvedIsWellFormed : Type 0
 ResolvedIsWellFormed = (items : List ItemTree) (ops : List OpHead) → IsWritable items → AreFineHeads ops → name_faults items ops ≡ [] → IsWellFormed (resolved items ops)
+
+-- a chain comes back exactly where it reaches a port that was in it before
+abbrev pub CyclesAreTold : Type 0
+CyclesAreTold = (before : List (Option ℕ)) (port : ℕ) → (comes_back before port ≡ true → LeadsIntoCycle before port) × (LeadsIntoCycle before port → comes_back before port ≡ true)

@@ -1,5 +1,5 @@
 -- What sources and paths lead to, and which chains of sources come back.
-use Rattle.std.specs.Prelude.{ℕ, zero, suc, ◌+◌, Bool, List, [], ◌∷◌, length, map, slice_get, Option, None, Some, is_some, Result, Ok, Err}
+use Rattle.std.specs.Prelude.{◌≡◌, ℕ, zero, suc, ◌+◌, ◌<◌, Bool, List, [], ◌∷◌, length, map, slice_get, Option, None, Some, is_some, Result, Ok, Err}
 use Rattle.std.specs.List.{flat_map}
 use Rattle.std.specs.Option.{option_and_then, option_flatten}
 use Rattle.yt_graph.specs.declared.ast.Word.{Word}
@@ -99,8 +99,12 @@ unfoldable pub port_before : List ItemTree → Source → Option ℕ
 port_before all (declared.TheVariants.Input w) = None
 port_before all (declared.TheVariants.Out path) = target_port (look_up all path)
 
-abbrev pub ports_before : List ItemTree → List PortDeclTree → List (Option ℕ)
-ports_before all ports = map (λ p. port_before all p.source) ports
+abbrev pub befores : List ItemTree → List PortDeclTree → List (Option ℕ)
+befores all ports = map (λ p. port_before all p.source) ports
+
+-- for each port of the graph, by its number, the port before it
+abbrev pub ports_before : List ItemTree → List (Option ℕ)
+ports_before all = befores all (all_ports all)
 
 -- one step along a chain, by the list of each port's port before
 abbrev pub step_back : List (Option ℕ) → Option ℕ → Option ℕ
@@ -114,3 +118,7 @@ steps_back before (suc n) at = steps_back before n (step_back before at)
 -- a chain of more steps than there are ports has come back to a port that is in it already
 abbrev pub comes_back : List (Option ℕ) → ℕ → Bool
 comes_back before port = is_some (steps_back before (suc (length before)) (Some port))
+
+-- from a port, following sources, a port is reached that was in the chain before
+abbrev pub LeadsIntoCycle : List (Option ℕ) → ℕ → Type 0
+LeadsIntoCycle before port = (i j again : ℕ) × (i < j) × (steps_back before i (Some port) ≡ Some again) × (steps_back before j (Some port) ≡ Some again)

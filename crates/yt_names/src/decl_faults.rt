@@ -102,6 +102,6 @@ pub(crate) fn width_faults(
 {
     match width {
         Ok(n) => least.note_if(!is_count(n, params), NameFault::Width(port.place)),
-        Err(fault) => least.note_if(true, fault),
+        Err(fault) => least.note(fault),
     }
 }

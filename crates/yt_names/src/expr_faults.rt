@@ -53,7 +53,7 @@ fn call_faults(least: &mut Least, word: &Word, count: usize, op: Option<&OpHead>
     ensures { least.new ≡ least_with (call_faults word.now count (option_copied op.entry)) least.old }
 {
     match op {
-        None => least.note_if(true, NameFault::Unknown(word.place)),
+        None => least.note(NameFault::Unknown(word.place)),
         Some(head) => least.note_if(head.args as usize != count, NameFault::Width(word.place)),
     }
 }

@@ -10,13 +10,10 @@ use crate::env::Env;
 use crate::expr_faults::{expr_faults, exprs_faults};
 use crate::fault::{LimitKind, NameFault};
 use crate::least::Least;
-use crate::locals::Locals;
+use crate::locals::{LOCALS, Locals};
 use crate::ranges::{is_count, is_outside};
 use std::alloc::{AllocError, Global};
 use yt_graph::{AstParts, AstStmt, OutDecl, Word, open_ast_stmt};
-
-/// How many locals a handler may have, parameters among them.
-const ROOM: usize = 16;
 
 /// A handler on the way to its faults.
 #[derive(Drop)]
@@ -41,7 +38,7 @@ pub(crate) fn handler_faults<'a>(
 {
     let mut walk = Walk {
         visible: Locals::new(alloc),
-        left: ROOM,
+        left: LOCALS,
         least: *least,
     };
     walk.params(env, params)?;
@@ -170,7 +167,7 @@ fn send_faults(least: &mut Least, word: &Word, count: usize, out: Option<&OutDec
     ensures { least.new ≡ least_with (send_faults word.now count (option_copied out.entry)) least.old }
 {
     match out {
-        None => least.note_if(true, NameFault::Unknown(word.place)),
+        None => least.note(NameFault::Unknown(word.place)),
         Some(decl) => least.note_if(!is_count(decl.width, count), NameFault::Width(word.place)),
     }
 }

@@ -116,7 +116,7 @@ fn target_faults(least: &mut Least, target: Result<Target, NameFault>)
 {
     match target {
         Ok(_) => {}
-        Err(fault) => least.note_if(true, fault),
+        Err(fault) => least.note(fault),
     }
 }
 
@@ -127,7 +127,7 @@ fn inside_faults(index: &Index, least: &mut Least, inside: Option<&Word>)
     match inside {
         None => {}
         Some(word) => match index.named(word.text.as_slice()) {
-            None => least.note_if(true, NameFault::Unknown(word.place)),
+            None => least.note(NameFault::Unknown(word.place)),
             Some(part) => least.note_if(!is_resource(part.item), NameFault::Kind(word.place)),
         },
     }
@@ -157,8 +157,6 @@ fn process_faults<'a>(
     requires { ports_of (item_tree part.now.item.now) ≡ map port_decl_tree ports.now }
     ensures { OnOk result (least.new ≡ least_with (process_faults (trees rules.now.index.now) rules.now.ops.now part.now.first room vars.now (map port_decl_tree ports.now)) least.old) }
 {
-    // The number of each port fits, since the one behind the last does.
-    let _end = part.end;
     let vars = Declared::new(alloc, vars)?;
     vars_faults(least, &vars, room.vars);
     ports_faults(alloc, rules, least, part, &vars, ports, room.ports)

@@ -1,6 +1,6 @@
 //! The fault that decides of those that were found so far.
-ghost use Rattle.std.specs.Prelude.{◌≡◌, ◌<◌, None, Some};
-ghost use Rattle.yt_names.specs.First.{limit_rank, fault_rank, fault_place, is_before, is_same_place, decides, lesser, least_with, fault_if};
+ghost use Rattle.std.specs.Prelude.{◌≡◌, ◌<◌, [], ◌∷◌, None};
+ghost use Rattle.yt_names.specs.First.{limit_rank, fault_rank, fault_place, is_before, is_same_place, decides, least_with, fault_if};
 
 use crate::fault::{LimitKind, NameFault};
 use std::marker::Model;
@@ -39,9 +39,9 @@ impl Least {
     }
 
     /// One more fault was found.
-    #[tactic(auto, unfolding(crate::specs::First::lesser))]
+    #[tactic(auto, unfolding(crate::specs::First::lesser, crate::specs::First::least_with))]
     pub(crate) fn note(&mut self, fault: NameFault)
-        ensures { self.new ≡ Some (lesser fault self.old) }
+        ensures { self.new ≡ least_with (fault ∷ []) self.old }
     {
         match self.fault {
             None => self.fault = Some(fault),

@@ -1,7 +1,8 @@
 //! From the syntax tree of a graph to the resolved graph, or its first fault of names.
 //!
 //! This crate knows nothing of text: a place is what the tree says. Its contract: [`resolve`] answers the graph that the
-//! tree's names stand for, or the fault that decides. That graph is well formed: [`resolved_is_well_formed`].
+//! tree's names stand for, or the fault that decides. That graph is well formed: [`resolved_is_well_formed`]. The fault of a
+//! cycle is that of chains which reach a port again: [`cycles_are_told`].
 #![tactic(auto)]
 
 mod chains;
@@ -35,7 +36,7 @@ mod target;
 mod uses_var;
 
 pub use fault::{LimitKind, NameFault};
-pub use laws::resolved_is_well_formed;
+pub use laws::{cycles_are_told, resolved_is_well_formed};
 pub use resolving::resolve;
 
 #[cfg(test)]

@@ -6,6 +6,9 @@ use indexmap::IndexSet;
 use std::alloc::{AllocError, Global};
 use std::marker::Model;
 
+/// How many locals a handler may have, parameters among them.
+pub(crate) const LOCALS: usize = 16;
+
 /// The names of visible locals, in the order of their declarations. A contract sees the list of them.
 #[derive(Drop)]
 pub(crate) struct Locals<'a> {

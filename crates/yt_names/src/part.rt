@@ -1,5 +1,5 @@
 //! The parts of a graph, with the numbers of their ports.
-ghost use Rattle.std.specs.Prelude.{◌≡◌, ◌+◌, ◌++◌, ℕ, List, length, map, IfOk, OnOk};
+ghost use Rattle.std.specs.Prelude.{◌≡◌, ◌+◌, ◌<◌, ◌^◌, ◌++◌, ℕ, List, length, map, IfOk, OnOk};
 ghost use Rattle.yt_graph.specs.AstPicture.{item_tree, port_decl_tree};
 ghost use Rattle.yt_names.specs.Tables.{number_in};
 ghost use Rattle.yt_names.specs.Names.{first_of, port_names};
@@ -27,11 +27,9 @@ pub(crate) struct Part<'a> {
     pub(crate) item: &'a Item,
     /// The number that its first port has, if it has one.
     pub(crate) first: usize,
-    /// The number behind that of its last port.
-    pub(crate) end: usize,
     /// The numbers of its ports.
     pub(crate) ports: Table<'a>,
-    ghost counted: { first + length (ports_of (item_tree item.now)) ≡ end },
+    ghost fits: { first + length (ports_of (item_tree item.now)) < 2 ^ 64 },
     ghost named: { (name : List ℕ) → number_in ports name ≡ first_of name first (port_names (ports_of (item_tree item.now))) },
 }
 
@@ -47,11 +45,9 @@ pub(crate) fn add_part<'a>(
 {
     let first = ports.len();
     let names = add_ports_of(alloc, item, ports)?;
-    let end = ports.len();
     Ok(Part {
         item,
         first,
-        end,
         ports: names,
     })
 }

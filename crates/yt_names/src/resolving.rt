@@ -1,9 +1,12 @@
 //! From the syntax tree to the resolved graph, or its first fault.
 ghost use Rattle.std.specs.Prelude.{◌≡◌, [], map, IfOk, IfErr};
 ghost use Rattle.yt_graph.specs.AstPicture.{ast_tree};
+ghost use Rattle.yt_graph.specs.AstWellFormed.{IsWritable};
 ghost use Rattle.yt_graph.specs.Picture.{graph_tree, port_tree};
+ghost use Rattle.yt_graph.specs.WellFormed.{IsWellFormed};
 ghost use Rattle.yt_names.specs.Answer.{IsFirstFault};
 ghost use Rattle.yt_names.specs.Faults.{name_faults};
+ghost use Rattle.yt_names.specs.Laws.{AreFineHeads};
 ghost use Rattle.yt_names.specs.Parts.{trees};
 ghost use Rattle.yt_names.specs.Resolved.{resolved, resolved_vars, resolved_ports};
 
@@ -22,6 +25,9 @@ use yt_graph::{Ast, Graph, Item, OpHead, Ports, Vars};
 pub fn resolve(alloc: Global, ast: &Ast, ops: &[OpHead]) -> Result<Graph, NameFault>
     // The graph is the one that the names stand for, and there is no fault.
     ensures ok { IfOk result (λ g. (name_faults (ast_tree ast.now) ops.now ≡ []) × (graph_tree g ≡ resolved (ast_tree ast.now) ops.now)) }
+
+    // That graph is well formed, where the tree is one that a text can have and the operators are within their limits.
+    ensures well_formed { IsWritable (ast_tree ast.now) → AreFineHeads ops.now → IfOk result (λ g. IsWellFormed (graph_tree g)) }
 
     // A fault is the one that decides.
     ensures err { IfErr result (λ fault. IsFirstFault (name_faults (ast_tree ast.now) ops.now) fault) }

@@ -1,7 +1,7 @@
 //! What all parts of a graph are judged by.
 ghost use Rattle.std.specs.Prelude.{◌≡◌, length, map, IfOk};
 ghost use Rattle.yt_names.specs.Parts.{trees};
-ghost use Rattle.yt_names.specs.Paths.{all_ports, ports_before, steps_back, comes_back};
+ghost use Rattle.yt_names.specs.Paths.{ports_before, steps_back, comes_back};
 
 use crate::chains::{far_back, goes_on};
 use crate::index::Index;
@@ -17,7 +17,7 @@ pub(crate) struct Rules<'i, 'a> {
     /// The operators.
     pub(crate) ops: &'a [OpHead],
     far: Vec<Option<usize>>,
-    ghost led: { far.items ≡ map (steps_back (ports_before (trees index.now) (all_ports (trees index.now))) (length (ports_before (trees index.now) (all_ports (trees index.now))))) (ports_before (trees index.now) (all_ports (trees index.now))) },
+    ghost led: { far.items ≡ map (steps_back (ports_before (trees index.now)) (length (ports_before (trees index.now)))) (ports_before (trees index.now)) },
 }
 
 impl<'i, 'a> Rules<'i, 'a> {
@@ -37,7 +37,7 @@ impl<'i, 'a> Rules<'i, 'a> {
 
     /// Whether the chain of a port comes back to a port that is in it already.
     pub(crate) fn comes_back(&self, port: usize) -> bool
-        ensures { result ≡ comes_back (ports_before (trees self.now.index.now) (all_ports (trees self.now.index.now))) port }
+        ensures { result ≡ comes_back (ports_before (trees self.now.index.now)) port }
     {
         goes_on(&self.far, port)
     }
@@ -45,7 +45,7 @@ impl<'i, 'a> Rules<'i, 'a> {
 
 /// The port before each port in its chain of sources.
 fn befores(alloc: Global, index: &Index) -> Result<Vec<Option<usize>>, AllocError>
-    ensures { IfOk result (λ v. v.items ≡ ports_before (trees index.now) (all_ports (trees index.now))) }
+    ensures { IfOk result (λ v. v.items ≡ ports_before (trees index.now)) }
 {
     let ports = index.ports();
     let mut all = Vec::with_capacity(alloc, ports.len())?;

@@ -5,6 +5,7 @@ pub mod Texts
 pub mod Depths
 pub mod Spelled
 pub mod Written
+pub mod WellFormed
 pub mod Good
 pub mod Reread
 pub mod RereadGraph

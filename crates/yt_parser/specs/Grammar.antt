@@ -1,5 +1,5 @@
 -- The grammar, by the cases of the syntax tree: which tokens spell it.
-use Rattle.std.specs.Prelude.{◌≡◌, ℕ, ◌+◌, ◌≤◌, ℤ, neg_ℤ, max, ◌⊎◌, List, [], ◌∷◌, ◌++◌, Option, None, Some}
+use Rattle.std.specs.Prelude.{◌≡◌, ℕ, ◌+◌, ◌≤◌, ℤ, neg_ℤ, ◌⊎◌, List, [], ◌∷◌, ◌++◌, Option, None, Some}
 use Rattle.yt_graph.specs.declared.expr.Op2.{Op2}
 use Rattle.yt_graph.specs.declared.expr.Op2.TheVariants.{Or, And, Lt, Le, Gt, Ge, Eq, Ne, Add, Sub, Mul, Div, Rem}
 use Rattle.yt_graph.specs.declared.ast.Word.{Word}
@@ -10,6 +10,7 @@ use Rattle.yt_graph.specs.declared.ast.Source.TheVariants.{Input, Out}
 use Rattle.yt_graph.specs.declared.ast.VarDecl.{VarDecl}
 use Rattle.yt_graph.specs.declared.ast.OutDecl.{OutDecl}
 use Rattle.yt_graph.specs.AstPicture.{AstExprTree, number, name, minus, negation, two_sides, paren, call_of, AstExprsTree, no_values, more_values, AstStmtTree, let_local, assign, send_on, when_only, when_else, turns, AstBlockTree, no_stmts, more_stmts, PortDeclTree, ItemTree, input, output, resource, process}
+use Rattle.yt_graph.specs.AstWellFormed.{ast_expr_depth, ast_block_depth}
 use Rattle.yt_parser.specs.declared.sign.Keyword.TheVariants as keys
 use Rattle.yt_parser.specs.declared.sign.Mark.TheVariants.{Comma, Dot, Assign, Plus, Minus, Star, Slash, Percent, Less, LessEqual, Greater, GreaterEqual, Equal, NotEqual}
 use Rattle.yt_parser.specs.Lexemes.{Lexeme, key, mark, digits, Tok, AreTokens}
@@ -114,24 +115,9 @@ abbrev mutual
   more_form no_values = nothing
   more_form (more_values e rest) = symbol Comma ▹ expr_form e ▹ more_form rest
 
--- the depth of an expression: 1 for a number or a name, else one more than that of its deepest part
-abbrev mutual
-  pub expr_depth : AstExprTree → ℕ
-  expr_depth (number n) = 1
-  expr_depth (name w) = 1
-  expr_depth (minus e) = 1 + expr_depth e
-  expr_depth (negation e) = 1 + expr_depth e
-  expr_depth (two_sides op l r) = 1 + max (expr_depth l) (expr_depth r)
-  expr_depth (paren e) = 1 + expr_depth e
-  expr_depth (call_of w args) = 1 + exprs_depth args
-
-  pub exprs_depth : AstExprsTree → ℕ
-  exprs_depth no_values = 0
-  exprs_depth (more_values e rest) = max (expr_depth e) (exprs_depth rest)
-
 -- an expression of a statement, of depth up to 32
 abbrev pub value_form : AstExprTree → Form
-value_form e ts = (expr_depth e ≤ 32) × expr_form e ts
+value_form e ts = (ast_expr_depth e ≤ 32) × expr_form e ts
 
 -- values that follow another, each behind a comma
 abbrev pub more_values_form : AstExprsTree → Form
@@ -158,23 +144,9 @@ abbrev mutual
   stmts_form no_stmts = nothing
   stmts_form (more_stmts s rest) = stmt_form s ▹ stmts_form rest
 
-abbrev mutual
-  -- how deep the blocks in a statement stand in each other
-  pub stmt_depth : AstStmtTree → ℕ
-  stmt_depth (let_local w e) = 0
-  stmt_depth (assign w e) = 0
-  stmt_depth (send_on w es) = 0
-  stmt_depth (when_only e first) = 1 + stmts_depth first
-  stmt_depth (when_else e first second) = 1 + max (stmts_depth first) (stmts_depth second)
-  stmt_depth (turns e most body) = 1 + stmts_depth body
-
-  pub stmts_depth : AstBlockTree → ℕ
-  stmts_depth no_stmts = 0
-  stmts_depth (more_stmts s rest) = max (stmt_depth s) (stmts_depth rest)
-
 -- a handler's block, which is the first of at most 8 blocks that stand in each other
 abbrev pub body_form : AstBlockTree → Form
-body_form body ts = (1 + stmts_depth body ≤ 8) × braces (stmts_form body) ts
+body_form body ts = (1 + ast_block_depth body ≤ 8) × braces (stmts_form body) ts
 
 -- what names an out from anywhere
 abbrev pub path_form : Path → Form

@@ -1,8 +1,7 @@
 -- Tokens as the grammar sees them: what each says, and its place.
-use Rattle.std.specs.Prelude.{◌≡◌, ℕ, ◌-◌, ◌≤◌, ◌<◌, ◌^◌, IsTrue, Bool, false, List, [], ◌∷◌, length, map, bytes_eq, codes, take, drop, if◌then◌else◌, ℤ, pos, negsuc}
-use Rattle.std.specs.List.{prefix_len}
+use Rattle.std.specs.Prelude.{ℕ, ◌-◌, ◌<◌, ◌^◌, IsTrue, List, [], ◌∷◌, map, bytes_eq, codes, take, drop, if◌then◌else◌, ℤ, pos, negsuc}
 use Rattle.yt_graph.specs.declared.place.Place.{Place}
-use Rattle.yt_lexer.specs.First.{is_letter, is_word_byte, is_reserved}
+use Rattle.yt_graph.specs.Names.{is_name}
 use Rattle.yt_lexer.specs.declared.token.Token.{Token}
 use Rattle.yt_lexer.specs.declared.token.TokenKind.{TokenKind}
 use Rattle.yt_lexer.specs.declared.token.TokenKind.TheVariants.{Word, Key, Number, Symbol}
@@ -164,21 +163,9 @@ tok_of text t = record { says = lexeme_of t.kind (take (t.to - t.from) (drop t.f
 abbrev pub toks_of : List ℕ → List Token → List Tok
 toks_of text tokens = map (tok_of text) tokens
 
--- whether the first byte is a letter or `_`
-abbrev pub begins_with_letter : List ℕ → Bool
-begins_with_letter [] = false
-begins_with_letter (b ∷ bs) = is_letter b
-
--- a word that isn't reserved: at most 32 letters, digits and `_`, no digit first
-pub record IsName (bytes : List ℕ) : Type 0 where
-  pub short : length bytes ≤ 32
-  pub begins : IsTrue (begins_with_letter bytes)
-  pub goes_on : prefix_len is_word_byte bytes ≡ length bytes
-  pub free : is_reserved bytes ≡ false
-
 -- what a token can say: names, and numbers from 0 to 2^63 - 1
 abbrev pub IsLexeme : Lexeme → Type 0
-IsLexeme (word bytes) = IsName bytes
+IsLexeme (word bytes) = IsTrue (is_name bytes)
 IsLexeme (key k) = Unit {0}
 IsLexeme (mark m) = Unit {0}
 IsLexeme (digits (pos n)) = n < 2 ^ 63

@@ -10,12 +10,13 @@ use Rattle.yt_graph.specs.declared.ast.Source.TheVariants.{Input, Out}
 use Rattle.yt_graph.specs.declared.ast.VarDecl.{VarDecl}
 use Rattle.yt_graph.specs.declared.ast.OutDecl.{OutDecl}
 use Rattle.yt_graph.specs.AstPicture.{AstExprTree, number, name, minus, negation, two_sides, paren, call_of, AstExprsTree, no_values, more_values, AstStmtTree, let_local, assign, send_on, when_only, when_else, turns, AstBlockTree, no_stmts, more_stmts, PortDeclTree, ItemTree, input, output, resource, process}
+use Rattle.yt_graph.specs.AstWellFormed.{ast_expr_depth}
 use Rattle.yt_parser.specs.declared.sign.Keyword.{Keyword}
 use Rattle.yt_parser.specs.declared.sign.Keyword.TheVariants as keys
 use Rattle.yt_parser.specs.declared.sign.Mark.{Mark}
 use Rattle.yt_parser.specs.declared.sign.Mark.TheVariants.{LeftBrace, RightBrace, LeftParen, RightParen, Comma, Dot, Assign, Plus, Minus, Star, Slash, Percent, Less, LessEqual, Greater, GreaterEqual, Equal, NotEqual}
 use Rattle.yt_parser.specs.Lexemes.{Lexeme, word, key, mark, digits, Tok, keyword_number, mark_number}
-use Rattle.yt_parser.specs.Grammar.{op_rank, right_rank, expr_depth}
+use Rattle.yt_parser.specs.Grammar.{op_rank, right_rank}
 
 -- what reading comes to: a thing and the tokens behind it, or the tokens in front of which it can't go on
 pub data Reading (X : Type 0) : Type 0 where
@@ -204,7 +205,7 @@ behind (t ∷ ts) = ts
 abbrev pub link : (ℕ → Reader AstExprTree) → ℕ → AstExprTree → (AstExprTree → Reader AstExprTree) → Option Op2 → Reader AstExprTree
 link inner room left go_on None s = got left s
 link inner room left go_on (Some op) s =
-    if nat_le (expr_depth left) room then and_then (inner (right_rank op) (behind s)) (λ right. go_on (two_sides op left right)) else got left s
+    if nat_le (ast_expr_depth left) room then and_then (inner (right_rank op) (behind s)) (λ right. go_on (two_sides op left right)) else got left s
 
 -- operators of one rank and their right sides behind a left side, so many at most
 abbrev pub chain : (ℕ → Reader AstExprTree) → ℕ → ℕ → ℕ → AstExprTree → Reader AstExprTree

@@ -9,7 +9,7 @@ use Rattle.yt_graph.specs.declared.ast.Source.TheVariants.{Input, Out}
 use Rattle.yt_graph.specs.declared.ast.VarDecl.{VarDecl}
 use Rattle.yt_graph.specs.declared.ast.OutDecl.{OutDecl}
 use Rattle.yt_graph.specs.AstPicture.{AstExprTree, number, name, minus, negation, two_sides, paren, call_of, AstExprsTree, no_values, more_values, AstStmtTree, let_local, assign, send_on, when_only, when_else, turns, AstBlockTree, no_stmts, more_stmts, PortDeclTree, ItemTree, input, output, resource, process}
-use Rattle.yt_lexer.specs.First.{is_name}
+use Rattle.yt_graph.specs.Names.{is_name}
 use Rattle.yt_parser.specs.Grammar.{rank_of, left_rank, right_rank}
 
 -- a number of the text

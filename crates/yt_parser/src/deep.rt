@@ -2,7 +2,7 @@
 
 ghost use Rattle.std.specs.Prelude.{◌≡◌, ◌+◌, ◌<◌, ◌^◌, max, IfOk};
 ghost use Rattle.yt_graph.specs.AstPicture.{name, number, minus, negation, two_sides, paren, call_of, ast_expr_tree, ast_exprs_tree};
-ghost use Rattle.yt_parser.specs.Grammar.{expr_depth, exprs_depth};
+ghost use Rattle.yt_graph.specs.AstWellFormed.{ast_expr_depth, ast_exprs_depth};
 
 use std::alloc::{AllocError, Global};
 use yt_graph::{AstExpr, AstExprs, Op2, Word, ast_call};
@@ -14,7 +14,7 @@ pub(crate) struct DeepExpr {
     pub(crate) expr: AstExpr,
     /// Its depth, at least 1.
     pub(crate) depth: u32,
-    ghost exact: { depth ≡ expr_depth (ast_expr_tree expr) },
+    ghost exact: { depth ≡ ast_expr_depth (ast_expr_tree expr) },
 }
 
 /// Expressions in order, and the depth of the deepest.
@@ -24,7 +24,7 @@ pub(crate) struct DeepExprs {
     pub(crate) exprs: AstExprs,
     /// The greatest of their depths.
     pub(crate) depth: u32,
-    ghost exact: { depth ≡ exprs_depth (ast_exprs_tree exprs.items) },
+    ghost exact: { depth ≡ ast_exprs_depth (ast_exprs_tree exprs.items) },
 }
 
 /// A number.

@@ -1,12 +1,14 @@
 //! The grammar of graphs, both ways: from tokens to the syntax tree that they spell, and from a tree to its text.
 //!
 //! This crate knows nothing of what names mean, of costs or of schedules. Its contract: [`parse`] gives the one tree that the
-//! tokens spell, or the place of the first token that no tree goes on with; [`print_graph`] gives the tree's canonical text.
+//! tokens spell, or the place of the first token that no tree goes on with; [`print_graph`] gives the tree's canonical text,
+//! which is read as the same tree but for places.
 #![tactic(auto)]
 
 mod cursor;
 mod deep;
 mod grammar_laws;
+mod limits;
 mod parse_expr;
 mod parse_item;
 mod parse_port;

@@ -9,14 +9,12 @@ ghost use Rattle.yt_parser.specs.Results.{IsReading};
 ghost use Rattle.yt_parser.specs.Parts.{every_reader, param_list_reader};
 
 use crate::cursor::{Cursor, Stop};
+use crate::limits::BLOCK_DEPTH;
 use crate::parse_item::{path, width};
 use crate::parse_stmt::block;
 use crate::sign::{Keyword, Mark};
 use std::alloc::Global;
 use yt_graph::{Num, OutDecl, OutDecls, PortDecl, PortDecls, Source, Word, Words};
-
-/// How many blocks of a handler stand in each other at most.
-const BLOCKS: u32 = 8;
 
 /// Ports, as many as there are.
 pub(crate) fn ports(cursor: &mut Cursor<'_>, alloc: Global) -> Result<PortDecls, Stop>
@@ -42,7 +40,7 @@ fn port(cursor: &mut Cursor<'_>, alloc: Global) -> Result<PortDecl, Stop>
     let source = source(cursor, alloc)?;
     let params = params(cursor, alloc)?;
     let outs = outs(cursor, alloc)?;
-    let body = block(cursor, alloc, BLOCKS)?;
+    let body = block(cursor, alloc, BLOCK_DEPTH)?;
     Ok(PortDecl {
         name,
         source,

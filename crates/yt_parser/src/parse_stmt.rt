@@ -7,15 +7,13 @@ ghost use Rattle.yt_parser.specs.Results.{IsReading};
 ghost use Rattle.yt_parser.specs.Parts.{value_list_reader, let_reader, send_reader, assign_reader};
 
 use crate::cursor::{Cursor, Stop};
+use crate::limits::EXPR_DEPTH;
 use crate::parse_expr::{expr, exprs};
 use crate::ranks::LOOSEST;
 use crate::sign::{Keyword, Mark};
 use std::alloc::Global;
 use yt_graph::{AstExpr, AstExprs, AstStmt, Stmts, ast_if, ast_if_else, ast_repeat};
 use yt_list::Items;
-
-/// How deep an expression of a statement may be.
-const LEVELS: u32 = 32;
 
 /// A block, the first of at most so many that stand in each other.
 #[cycle(block)]
@@ -158,7 +156,7 @@ fn value(cursor: &mut Cursor<'_>, alloc: Global) -> Result<AstExpr, Stop>
     ensures read { IsReading ast_expr_tree (value_reader cursor.old) result cursor.new }
     ensures less { IfOk result (λ _. length cursor.new < length cursor.old) }
 {
-    let value = expr(cursor, alloc, LEVELS, LOOSEST)?;
+    let value = expr(cursor, alloc, EXPR_DEPTH, LOOSEST)?;
     Ok(value.expr)
 }
 
@@ -182,6 +180,6 @@ fn value_list(cursor: &mut Cursor<'_>, alloc: Global) -> Result<AstExprs, Stop>
     if cursor.at_mark(Mark::RightParen) {
         return Ok(Vec::new(alloc));
     }
-    let values = exprs(cursor, alloc, LEVELS)?;
+    let values = exprs(cursor, alloc, EXPR_DEPTH)?;
     Ok(values.exprs)
 }

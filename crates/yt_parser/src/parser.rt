@@ -2,6 +2,7 @@
 
 ghost use Rattle.std.specs.Prelude.{◌≡◌, ◌≤◌, None, length, List, IfOk, IfErr};
 ghost use Rattle.yt_graph.specs.AstPicture.{ItemTree, ast_tree};
+ghost use Rattle.yt_graph.specs.AstWellFormed.{IsWritable};
 ghost use Rattle.yt_lexer.specs.Lexes.{Lexes};
 ghost use Rattle.yt_parser.specs.Lexemes.{toks_of};
 ghost use Rattle.yt_parser.specs.Grammar.{Spells};
@@ -33,6 +34,9 @@ pub fn parse(alloc: Global, text: &[u8], tokens: &Tokens) -> Result<Ast, ParseFa
 
     // The tokens spell the tree.
     ensures ok { IfOk result (λ ast. Spells (toks_of text.now tokens.now) (ast_tree ast)) }
+
+    // The tree can be written: its names are words, its numbers have no sign, and no depth is past its limit.
+    ensures writable { IfOk result (λ ast. IsWritable (ast_tree ast)) }
 
     // A fault is at the first token that no tree goes on with.
     ensures err { IfErr result (λ fault. IsParseFault text.now (toks_of text.now tokens.now) fault) }

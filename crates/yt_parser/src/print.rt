@@ -5,7 +5,7 @@ ghost use Rattle.std.specs.Fmt.{signed_decimal};
 ghost use Rattle.std.specs.List.{flat_map, list_all};
 ghost use Rattle.yt_graph.specs.AstPicture.{port_decl_tree, item_tree, ast_tree};
 ghost use Rattle.yt_parser.specs.Writable.{is_port, is_item};
-ghost use Rattle.yt_parser.specs.SamePlaces.{IsWritten};
+ghost use Rattle.yt_parser.specs.SamePlaces.{IsWritten, ReadsAs};
 ghost use Rattle.yt_parser.specs.CanonicalText.{every_layout, head_layout, inside_layout, item_layout, out_layout, params_layout, path_layout, port_layout, source_layout, start_layout, text_of, var_layout, canonical_text};
 
 use crate::print_stmt::print_block;
@@ -13,10 +13,15 @@ use crate::printer::Printer;
 use std::alloc::{AllocError, Global};
 use yt_graph::{Ast, Item, Num, OutDecl, Path, PortDecl, Source, VarDecl, Word};
 
-/// The canonical text of a graph that can be written. `Err` comes where memory ran out.
+/// The canonical text of a graph that can be written: it is read as the same graph. `Err` comes where memory ran out.
 pub fn print_graph(alloc: Global, ast: &Ast) -> Result<Vec<u8>, AllocError>
     requires { IsWritten (ast_tree ast.now) }
-    ensures { IfOk result (λ v. v.items ≡ canonical_text (ast_tree ast.now)) }
+
+    // The bytes are the canonical text.
+    ensures text { IfOk result (λ v. v.items ≡ canonical_text (ast_tree ast.now)) }
+
+    // That text has no fault, and its tokens spell the same tree but for places.
+    ensures read { IfOk result (λ v. ReadsAs v.items (ast_tree ast.now)) }
 {
     let mut out = Printer::new(alloc);
     for item in ast.items.as_slice() {

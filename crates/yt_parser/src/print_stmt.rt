@@ -3,7 +3,7 @@
 ghost use Rattle.std.specs.Prelude.{◌≡◌, ◌+◌, ◌^◌, ◌<◌, ◌++◌, codes, OnOk};
 ghost use Rattle.std.specs.Fmt.{signed_decimal};
 ghost use Rattle.yt_graph.specs.AstPicture.{ast_expr_tree, ast_stmt_tree, ast_block_tree};
-ghost use Rattle.yt_parser.specs.Grammar.{stmt_depth, stmts_depth};
+ghost use Rattle.yt_graph.specs.AstWellFormed.{ast_stmt_depth, ast_block_depth};
 ghost use Rattle.yt_parser.specs.CanonicalText.{braced, expr_layout, stmt_layout, stmts_layout, text_of};
 
 use crate::print_expr::{print_expr, print_exprs};
@@ -14,7 +14,7 @@ use yt_graph::{AstExpr, AstParts, AstStmt, Num, open_ast_stmt};
 /// Adds the lines of a statement that stands in so many braces.
 #[cycle(stmt)]
 fn print_stmt(out: &mut Printer, braces: usize, s: &AstStmt) -> Result<(), AllocError>
-    requires { braces + stmt_depth (ast_stmt_tree s.now) < 2 ^ 64 }
+    requires { braces + ast_stmt_depth (ast_stmt_tree s.now) < 2 ^ 64 }
     ensures { OnOk result (out.new ≡ out.old ++ text_of (stmt_layout braces (ast_stmt_tree s.now))) }
 {
     out.indent(braces)?;
@@ -82,7 +82,7 @@ fn print_count(out: &mut Printer, count: &AstExpr, max: Num) -> Result<(), Alloc
 /// Adds a block that is opened in so many braces: the lines of its statements between its own.
 #[cycle(stmt)]
 pub(crate) fn print_block(out: &mut Printer, braces: usize, b: &[AstStmt]) -> Result<(), AllocError>
-    requires { braces + 1 + stmts_depth (ast_block_tree b.now) < 2 ^ 64 }
+    requires { braces + 1 + ast_block_depth (ast_block_tree b.now) < 2 ^ 64 }
     ensures { OnOk result (out.new ≡ out.old ++ text_of (braced braces (stmts_layout (braces + 1) (ast_block_tree b.now)))) }
 {
     out.put(b"{\n")?;

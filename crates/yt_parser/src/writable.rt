@@ -7,18 +7,12 @@ ghost use Rattle.yt_parser.specs.Grammar.{left_rank, rank_of};
 ghost use Rattle.yt_parser.specs.SamePlaces.{IsWritten};
 ghost use Rattle.yt_parser.specs.Writable.{is_count, is_start, is_expr, are_args, are_exprs, is_stmt, are_stmts, is_path, is_source, is_every, is_out, is_var, is_param, is_port, is_inside, is_item};
 
+use crate::limits::{BLOCK_DEPTH, EXPR_DEPTH};
 use crate::ranks::{COMPARISON, op_rank, right_rank};
 use yt_graph::{
     Ast, AstExpr, AstExprParts, AstParts, AstStmt, Item, Num, Op2, OutDecl, Path, PortDecl, Source,
-    VarDecl, Word, open_ast_expr, open_ast_stmt,
+    VarDecl, Word, is_name, open_ast_expr, open_ast_stmt,
 };
-use yt_lexer::is_name;
-
-/// How deep an expression of a statement is at most.
-const DEPTH: u32 = 32;
-
-/// How many blocks stand in a handler's block, and in each other, at most.
-const BLOCKS: u32 = 7;
 
 /// Whether some tokens spell the tree, so that it can be written.
 pub fn ast_ok(ast: &Ast) -> bool
@@ -116,7 +110,7 @@ fn port_ok(port: &PortDecl) -> bool
         && source_ok(&port.source)
         && words_ok(port.params.as_slice())
         && outs_ok(port.outs.as_slice())
-        && stmts_ok(&port.body, BLOCKS)
+        && stmts_ok(&port.body, BLOCK_DEPTH - 1)
 }
 
 /// Whether what a port gets its messages from can be written.
@@ -179,20 +173,23 @@ fn stmt_ok(s: &AstStmt, room: u32) -> bool
     ensures { result ≡ is_stmt room (ast_stmt_tree s.now) }
 {
     match open_ast_stmt(s) {
-        AstParts::Let(word, value) => word_ok(word) && expr_ok(value, DEPTH),
-        AstParts::Set(word, value) => word_ok(word) && expr_ok(value, DEPTH),
-        AstParts::Send(word, values) => word_ok(word) && exprs_ok(values, DEPTH),
-        AstParts::Only(test, first) => expr_ok(test, DEPTH)
+        AstParts::Let(word, value) => word_ok(word) && expr_ok(value, EXPR_DEPTH),
+        AstParts::Set(word, value) => word_ok(word) && expr_ok(value, EXPR_DEPTH),
+        AstParts::Send(word, values) => word_ok(word) && exprs_ok(values, EXPR_DEPTH),
+        AstParts::Only(test, first) => expr_ok(test, EXPR_DEPTH)
             && room > 0
             && stmts_ok(first, room - 1),
         AstParts::Else(test, first, second) => {
-            expr_ok(test, DEPTH)
+            expr_ok(test, EXPR_DEPTH)
                 && room > 0
                 && stmts_ok(first, room - 1)
                 && stmts_ok(second, room - 1)
         }
         AstParts::Repeat(count, max, body) => {
-            expr_ok(count, DEPTH) && count_ok(max.value) && room > 0 && stmts_ok(body, room - 1)
+            expr_ok(count, EXPR_DEPTH)
+                && count_ok(max.value)
+                && room > 0
+                && stmts_ok(body, room - 1)
         }
     }
 }

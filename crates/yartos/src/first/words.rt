@@ -1,46 +1,12 @@
 //! Words, numbers and other pieces at the front of a text.
 
 ghost use Rattle.std.specs.Prelude.{◌≡◌, ◌≤◌, length, option_map, option_copied};
-ghost use Rattle.std.specs.List.{list_all, prefix_len};
-ghost use Rattle.yartos.specs.FirstText.{begins_as_word, is_name};
-ghost use Rattle.yt_lexer.specs.First.{is_letter, is_word_byte, is_reserved};
+ghost use Rattle.std.specs.List.{prefix_len};
+ghost use Rattle.yt_graph.specs.Names.{is_word_byte};
 ghost use Rattle.yartos.specs.FirstReading.{after, word_at, name_at, number_of, number_at};
 
 use yt_base::{Decimal, digits};
-
-/// The words that name nothing.
-const RESERVED: [&[u8]; 27] = [
-    b"input",
-    b"output",
-    b"resource",
-    b"process",
-    b"in",
-    b"var",
-    b"port",
-    b"from",
-    b"out",
-    b"every",
-    b"period",
-    b"let",
-    b"send",
-    b"if",
-    b"else",
-    b"repeat",
-    b"max",
-    b"and",
-    b"or",
-    b"not",
-    b"burst",
-    b"within",
-    b"native",
-    b"cost",
-    b"node",
-    b"link",
-    b"delay",
-];
-
-/// How many bytes a name has at most.
-const NAME_ROOM: usize = 32;
+use yt_graph::{is_name, is_word_byte};
 
 /// The text behind this front; `None` exactly where the text doesn't begin with it.
 #[tactic(auto, unfolding(crate::specs::FirstReading::after))]
@@ -64,51 +30,6 @@ fn word_len(text: &[u8]) -> usize
     ensures bound { result ≤ length text.now }
 {
     text.iter().take_while(|b| is_word_byte(**b)).count()
-}
-
-/// Whether a byte is a letter, a digit or `_`.
-fn is_word_byte(b: u8) -> bool
-    ensures { result ≡ is_word_byte b }
-{
-    is_letter(b) || b.is_ascii_digit()
-}
-
-/// Whether a byte is a letter or `_`.
-fn is_letter(b: u8) -> bool
-    ensures { result ≡ is_letter b }
-{
-    b.is_ascii_alphabetic() || b == b'_'
-}
-
-/// Whether a word is reserved, so that it names nothing.
-fn is_reserved(word: &[u8]) -> bool
-    ensures { result ≡ is_reserved word.now }
-{
-    RESERVED.iter().any(|reserved| *reserved == word)
-}
-
-/// Whether a text may name something: a letter or `_`, then letters, digits and `_`, at most 32 bytes, and not reserved.
-fn is_name(word: &[u8]) -> bool
-    ensures { result ≡ is_name word.now }
-{
-    begins_as_word(word) && has_word_bytes(word) && word.len() <= NAME_ROOM && !is_reserved(word)
-}
-
-/// Whether the first byte is a letter or `_`.
-fn begins_as_word(word: &[u8]) -> bool
-    ensures { result ≡ begins_as_word word.now }
-{
-    match word {
-        [first, ..] => is_letter(*first),
-        [] => false,
-    }
-}
-
-/// Whether each byte is a letter, a digit or `_`.
-fn has_word_bytes(word: &[u8]) -> bool
-    ensures { result ≡ list_all is_word_byte word.now }
-{
-    word.iter().all(|b| is_word_byte(*b))
 }
 
 /// The name at the front, and the text behind it; `None` exactly where the longest word there is no name.

@@ -1,31 +1,25 @@
-use crate::{Status, yartos};
+use crate::Status;
+use crate::top::asked::ask;
 use std::alloc::{AllocError, Global};
 use std::process::Abort;
 use std::test::Fail;
 use yt_base::Line;
-use yt_io::{MemShelf, MemSink};
 
 /// The status and the printed text of a command on a graph.
-fn answer(
-    rt: &(impl Abort + AllocGlobal),
-    command: &str,
-    graph: Vec<u8>,
-) -> Result<(Status, Vec<u8>), Fail> {
-    let alloc = rt.alloc();
-    let words = vec![in alloc;
-        String::from_str(alloc, command)?,
-        String::from_str(alloc, "g")?,
-    ]?;
-    let files = vec![in alloc; (String::from_str(alloc, "g")?, graph)]?;
-    let mut shelf = MemShelf::with(files, Vec::new(alloc));
-    let mut sink = MemSink::with_room(alloc, 1000, Vec::new(alloc))?;
-    let status = yartos(alloc, &words, &mut shelf, &mut sink);
-    Ok((status, sink.bytes().to_vec(alloc)?))
+fn answer(alloc: Global, command: &str, graph: Vec<u8>) -> Result<(Status, Vec<u8>), AllocError> {
+    ask(
+        alloc,
+        &[command, "g"],
+        graph,
+        Vec::new(alloc),
+        Vec::new(alloc),
+        Vec::new(alloc),
+    )
 }
 
 /// Checks what `check` says of a graph: its refusal, or that checks aren't built yet where there's none.
 fn check(rt: &(impl Abort + AllocGlobal), graph: Vec<u8>, line: &str) -> Result<(), Fail> {
-    let (status, text) = answer(rt, "check", graph)?;
+    let (status, text) = answer(rt.alloc(), "check", graph)?;
     let wanted = if line == "notyet\n" {
         Status::NotYet
     } else {
@@ -256,6 +250,82 @@ const NUMBERS: [(&str, &str); 11] = [
 #[test]
 fn numbers_are_judged_at_their_place(rt: HostRuntime) -> Result<(), Fail> {
     for (text, line) in &NUMBERS {
+        check(&rt, Vec::from_slice(rt.alloc(), text.as_bytes())?, line)?;
+    }
+    Ok(())
+}
+
+/// Texts whose handlers take and send as much as they may, or more, and what is said of them.
+const COSTS: [(&str, &str); 16] = [
+    (
+        "input i(1) period 1 process p { port a from i (v) out o(1) { repeat v max 1000 { repeat v max 1000 { let x = 1 } } } }",
+        "graph cost p.a 3003003\n",
+    ),
+    (
+        "input i(1) period 1 process p { port a from i (v) out o(1) { repeat v max 65 { send o (v) } } }",
+        "graph sends p.a o\n",
+    ),
+    (
+        "input i(1) period 1 process p { port a from i (v) out o(1) { repeat v max 64 { send o (v) } } }",
+        "notyet\n",
+    ),
+    (
+        "input i(1) period 1 process p { port a from i (v) out o(1) { repeat v max 1000 { repeat v max 332 { let x = 1 } } repeat v max 331 { let x = 1 } let x = 1 } }",
+        "notyet\n",
+    ),
+    (
+        "input i(1) period 1 process p { port a from i (v) out o(1) { repeat v max 1000 { repeat v max 332 { let x = 1 } } repeat v max 331 { let x = 1 } let x = -1 } }",
+        "graph cost p.a 1000001\n",
+    ),
+    (
+        "input i(1) period 1 process p { port a from i (v) out o(1) { if v { send o (1) repeat v max 63 { send o (1) } } else { repeat v max 65 { send o (2) } } } }",
+        "graph sends p.a o\n",
+    ),
+    (
+        "input i(1) period 1 process p { port a from i (v) out o(1) { if v { repeat v max 64 { send o (1) } } else { repeat v max 64 { send o (2) } } } }",
+        "notyet\n",
+    ),
+    (
+        "input i(1) period 1 process p { port a from i (v) out o(1) { if v { send o (0) } repeat v max 64 { send o (1) } } }",
+        "graph sends p.a o\n",
+    ),
+    (
+        "input i(1) period 1 process p { port a from i (v) out o(1) out e(1) { repeat v max 65 { send e (v) } } }",
+        "graph sends p.a e\n",
+    ),
+    (
+        "input i(1) period 1 process p { port a from i (v) out o(1) out e(1) { repeat v max 64 { send e (v) send o (v) } } }",
+        "notyet\n",
+    ),
+    (
+        "input i(1) period 1 process p { port a from i (v) out o(1) { repeat v max 10000 { repeat v max 65 { send o (v) } } } }",
+        "graph cost p.a 1980003\n",
+    ),
+    (
+        "input i(1) period 1 process p { port a from i (v) out o(1) {  } port b from i (v) { repeat v max 1000 { repeat v max 1000 { let x = 1 } } } }",
+        "graph cost p.b 3003003\n",
+    ),
+    (
+        "input i(1) period 1 process p { port a from i (v) out o(1) { repeat v max 65 { send o (v) } } port b from i (v) { repeat v max 1000 { repeat v max 1000 { let x = 1 } } } }",
+        "graph sends p.a o\n",
+    ),
+    (
+        "input i(1) period 1 process p { port a from i (v) out o(1) { repeat v max 1000 { repeat v max 1000 { let x = 1 } } } port b from i (v) { let y = w } }",
+        "graph name 1 146 unknown\n",
+    ),
+    (
+        "input i(1) period 1 process p { port a from i (v) out o(1) { repeat v max 10000 { repeat v max 10000 { repeat v max 10000 { repeat v max 10000 { let x = 1 } } } } } }",
+        "graph cost p.a 30003000300030003\n",
+    ),
+    (
+        "input i(1) period 1 process p { port a from i (v) out o(1) { repeat v max 10000 { repeat v max 10000 { repeat v max 10000 { repeat v max 10000 { repeat v max 10000 { let x = 1 } } } } } } }",
+        "graph cost p.a 18446744073709551615\n",
+    ),
+];
+
+#[test]
+fn costs_are_judged_by_port(rt: HostRuntime) -> Result<(), Fail> {
+    for (text, line) in &COSTS {
         check(&rt, Vec::from_slice(rt.alloc(), text.as_bytes())?, line)?;
     }
     Ok(())
@@ -518,7 +588,7 @@ fn graphs_are_printed_in_one_way(rt: HostRuntime) -> Result<(), Fail> {
         ),
     ] {
         let graph = Vec::from_slice(rt.alloc(), text.as_bytes())?;
-        let (status, told) = answer(&rt, "form", graph)?;
+        let (status, told) = answer(rt.alloc(), "form", graph)?;
         assert_eq!(rt; told.as_slice(), printed.as_bytes());
         assert_eq!(rt; status, Status::Done);
     }

@@ -1,7 +1,7 @@
-use crate::{Status, yartos};
+use crate::Status;
+use crate::top::asked::ask;
 use std::process::Abort;
 use std::test::Fail;
-use yt_io::{MemShelf, MemSink};
 
 const BLINK: &str =
     "input tick(1) period 10\noutput led from p.a.o\nprocess p {\n  port a from tick (v) out o(1) {\n    send o (v + 1)\n  }\n}\n";
@@ -21,7 +21,7 @@ struct Case {
     text: &'static str,
 }
 
-const NEVER: u64 = 9;
+const NEVER: u64 = 99;
 
 const USAGE: &str =
     "usage: yartos form G, tasks G, check G, run G T, stop G T N, set S, play S P, replay S, demo N\n";
@@ -43,23 +43,15 @@ impl Case {
 
 fn check(rt: &(impl Abort + AllocGlobal), case: &Case) -> Result<(), Fail> {
     let alloc = rt.alloc();
-    let mut words = Vec::new(alloc);
-    for word in case.words {
-        words.push(String::from_str(alloc, word)?)?;
-    }
-    let mut files = Vec::new(alloc);
-    files.push((
-        String::from_str(alloc, "g")?,
+    let (status, text) = ask(
+        alloc,
+        case.words,
         Vec::from_slice(alloc, case.graph.as_bytes())?,
-    ))?;
-    files.push((
-        String::from_str(alloc, "t")?,
         Vec::from_slice(alloc, case.trace.as_bytes())?,
-    ))?;
-    let mut shelf = MemShelf::with(files, vec![in alloc; case.failing_read]?);
-    let mut sink = MemSink::with_room(alloc, 200, vec![in alloc; case.failing_write]?)?;
-    let status = yartos(alloc, &words, &mut shelf, &mut sink);
-    assert_eq!(rt; sink.bytes(), case.text.as_bytes());
+        vec![in alloc; case.failing_read]?,
+        vec![in alloc; case.failing_write]?,
+    )?;
+    assert_eq!(rt; text.as_slice(), case.text.as_bytes());
     assert_eq!(rt; status, case.status);
     Ok(())
 }
@@ -183,6 +175,14 @@ const CALL: &str =
 const LOOP: &str =
     "process p {\n  port a from q.b.o () out o(0) {\n    send o ()\n  }\n}\nprocess q {\n  port b from p.a.o () out o(0) {\n    send o ()\n  }\n}\n";
 
+/// A graph of one port whose loops may take more than 1,000,000 ticks.
+const COSTLY: &str =
+    "input tick(1) period 10\noutput led from p.a.o\nprocess p {\n  port a from tick (v) out o(1) {\n    repeat v max 1000 {\n      repeat v max 1000 {\n        let x = 1\n      }\n    }\n  }\n}\n";
+
+/// A graph of one port that may send more than 64 messages.
+const CROWDED: &str =
+    "input tick(1) period 10\noutput led from p.a.o\nprocess p {\n  port a from tick (v) out o(1) {\n    repeat v max 65 {\n      send o (v)\n    }\n  }\n}\n";
+
 #[test]
 fn graphs_are_judged_in_order(rt: HostRuntime) -> Result<(), Fail> {
     let form: &'static [&'static str] = &["form", "g"];
@@ -215,6 +215,18 @@ fn graphs_are_judged_in_order(rt: HostRuntime) -> Result<(), Fail> {
         (run, UNDECLARED, Status::Graph, "graph name 1 17 unknown\n"),
         (stop, UNDECLARED, Status::Graph, "graph name 1 17 unknown\n"),
         (check_graph, LOOP, Status::Graph, "graph name 2 8 cycle\n"),
+        (form, COSTLY, Status::Done, COSTLY),
+        (
+            check_graph,
+            COSTLY,
+            Status::Graph,
+            "graph cost p.a 3003003\n",
+        ),
+        (tasks, COSTLY, Status::Graph, "graph cost p.a 3003003\n"),
+        (run, COSTLY, Status::Graph, "graph cost p.a 3003003\n"),
+        (stop, COSTLY, Status::Graph, "graph cost p.a 3003003\n"),
+        (check_graph, CROWDED, Status::Graph, "graph sends p.a o\n"),
+        (run, CROWDED, Status::Graph, "graph sends p.a o\n"),
     ] {
         check(
             &rt,
@@ -300,33 +312,39 @@ fn faults_are_told(rt: HostRuntime) -> Result<(), Fail> {
 #[test]
 fn long_files_are_told(rt: HostRuntime) -> Result<(), Fail> {
     let alloc = rt.alloc();
-    let mut words = Vec::new(alloc);
-    for word in ["run", "g", "t"] {
-        words.push(String::from_str(alloc, word)?)?;
-    }
-    for (graph, trace, status, text) in [
-        (16_777_217, 0, Status::Long, b"long file 1\n".as_slice()),
+    for (words, graph, trace, status, text) in [
         (
+            ["check", "g"].as_slice(),
+            16_777_217,
+            0,
+            Status::Long,
+            b"long file 1\n".as_slice(),
+        ),
+        (
+            ["run", "g", "t"].as_slice(),
             16_777_216,
             16_777_217,
             Status::Long,
             b"long file 2\n".as_slice(),
         ),
         (
+            ["run", "g", "t"].as_slice(),
             16_777_216,
             16_777_216,
             Status::NotYet,
             b"notyet\n".as_slice(),
         ),
     ] {
-        let mut files = Vec::new(alloc);
-        files.push((String::from_str(alloc, "g")?, vec![in alloc; b' '; graph]?))?;
-        files.push((String::from_str(alloc, "t")?, vec![in alloc; b' '; trace]?))?;
-        let mut shelf = MemShelf::with(files, Vec::new(alloc));
-        let mut sink = MemSink::with_room(alloc, 100, Vec::new(alloc))?;
-        let ended = yartos(alloc, &words, &mut shelf, &mut sink);
+        let (ended, told) = ask(
+            alloc,
+            words,
+            vec![in alloc; b' '; graph]?,
+            vec![in alloc; b' '; trace]?,
+            Vec::new(alloc),
+            Vec::new(alloc),
+        )?;
         assert_eq!(rt; ended, status);
-        assert_eq!(rt; sink.bytes(), text);
+        assert_eq!(rt; told.as_slice(), text);
     }
     Ok(())
 }

@@ -19,7 +19,7 @@ use Rattle.yt_names.proofs.formed.Feeds.{IsFed, leads, path_of, port_there}
 
 -- a chain that leads nowhere within so many steps
 abbrev pub IsEnded : List ItemTree → Source → Type 0
-IsEnded all s = steps_back (ports_before all (all_ports all)) (length (all_ports all)) (port_before all s) ≡ None
+IsEnded all s = steps_back (ports_before all) (length (all_ports all)) (port_before all s) ≡ None
 
 -- what is not there
 none_is : (o : Option ℕ) → is_some o ≡ false → o ≡ None
@@ -28,10 +28,10 @@ none_is (Some n) e = absurd (true≢false e)
 
 -- each port's chain has ended
 module _ (all : List ItemTree) where
-  pub each_ended : (n : ℕ) (ps : List PortDeclTree) → ((k : ℕ) → slice_get (all_ports all) (n + k) ≡ slice_get ps k) → NoneBack (ports_before all (all_ports all)) n ps → Each (λ p. IsEnded all p.source) ps
+  pub each_ended : (n : ℕ) (ps : List PortDeclTree) → ((k : ℕ) → slice_get (all_ports all) (n + k) ≡ slice_get ps k) → NoneBack (ports_before all) n ps → Each (λ p. IsEnded all p.source) ps
   each_ended n [] at h = tt
   each_ended n (p ∷ ps) at h =
-      let before = ports_before all (all_ports all) in
+      let before = ports_before all in
       let here : slice_get (all_ports all) n ≡ Some p = let e : n ≡ n + 0 = omega arith in ap (slice_get (all_ports all)) e ∙ at 0 in
       let step : step_back before (Some n) ≡ port_before all p.source =
       ap option_flatten (slice_get-map (λ q. port_before all q.source) (all_ports all) n) ∙ ap (λ o. option_flatten (option_map (λ q. port_before all q.source) o)) here in
@@ -40,13 +40,13 @@ module _ (all : List ItemTree) where
         each_ended (n + 1) ps (λ k. let e : n + 1 + k ≡ n + suc k = omega arith in ap (slice_get (all_ports all)) e ∙ at (suc k)) h.1,
       )
 
-  pub all_ended : NoneBack (ports_before all (all_ports all)) 0 (all_ports all) → Each (λ p. IsEnded all p.source) (all_ports all)
+  pub all_ended : NoneBack (ports_before all) 0 (all_ports all) → Each (λ p. IsEnded all p.source) (all_ports all)
   all_ended h = each_ended 0 (all_ports all) (λ k. let e : 0 + k ≡ k = omega arith in ap (slice_get (all_ports all)) e) h
 
 module _ (all : List ItemTree) (ops : List OpHead) (fed : Each (IsFed all) (all_ports all)) (few : length (all_ports all) ≤ 64) where
   -- so the chain in the graph ends within so many ports
   pub ends : (n : ℕ) (port : Word) (params : ℕ) (s : Source) → width_faults port params (source_width all s) ≡ []
-      → steps_back (ports_before all (all_ports all)) n (port_before all s) ≡ None → EndsWithin (resolved all ops) n (resolved_feed all s)
+      → steps_back (ports_before all) n (port_before all s) ≡ None → EndsWithin (resolved all ops) n (resolved_feed all s)
   unfolding port_before resolved
   ends n port params (source.TheVariants.Input w) f e = tt
   ends zero port params (source.TheVariants.Out path) f e =
@@ -54,7 +54,7 @@ module _ (all : List ItemTree) (ops : List OpHead) (fed : Each (IsFed all) (all_
       let there : target_port (look_up all path) ≡ Some t.0.port = ap target_port t.1 in
       absurd (true≢false (sym (ap is_some there) ∙ ap is_some e))
   ends (suc n) port params (source.TheVariants.Out path) f e =
-      let before = ports_before all (all_ports all) in
+      let before = ports_before all in
       let t = path_of all port params path f in
       let l = leads all path t.0 t.1 in
       let in_ports = slice_get_within (all_ports all) t.0.port l.port l.at_port in

@@ -103,14 +103,14 @@ module _ (outs : List OutDecl) where
 record PortsWalked (all : List ItemTree) (ops : List OpHead) (vars : List VarDecl) (f : List ℕ → Option ℕ) (n : ℕ) (rest : List PortDeclTree) : Type 0 where
   own : AreOwn f n (port_names rest)
   good : Each (IsGoodPort all ops vars) rest
-  back : NoneBack (ports_before all (all_ports all)) n rest
+  back : NoneBack (ports_before all) n rest
 
 module _ (all : List ItemTree) (ops : List OpHead) (vars : List VarDecl) (ports : List PortDeclTree) (first : ℕ) where
   port_first : List ℕ → Option ℕ
   port_first y = first_of y first (port_names ports)
 
   port_good : (number left : ℕ) (p : PortDeclTree) → port_faults all ops vars ports first number left p ≡ []
-      → (declared_faults p.name number (first_of p.name.text first (port_names ports)) left limit.TheVariants.Ports ≡ []) × (comes_back (ports_before all (all_ports all)) number ≡ false) × IsGoodPort all ops vars p
+      → (declared_faults p.name number (first_of p.name.text first (port_names ports)) left limit.TheVariants.Ports ≡ []) × (comes_back (ports_before all) number ≡ false) × IsGoodPort all ops vars p
   port_good number left p e =
       let a = no_part _ _ e in
       let b = no_part _ _ a.1 in
@@ -144,12 +144,12 @@ module _ (all : List ItemTree) (ops : List OpHead) (vars : List VarDecl) (ports 
 pub record ItemsWalked (all : List ItemTree) (ops : List OpHead) (f : List ℕ → Option ℕ) (n first : ℕ) (items : List ItemTree) : Type 0 where
   pub own : AreOwn f n (item_names items)
   pub good : Each (IsGoodItem all ops) items
-  pub back : NoneBack (ports_before all (all_ports all)) first (flat_map ports_of items)
+  pub back : NoneBack (ports_before all) first (flat_map ports_of items)
 
 record ItemGood (all : List ItemTree) (ops : List OpHead) (n first : ℕ) (o : Option ℕ) (i : ItemTree) : Type 0 where
   own : o ≡ Some n
   good : IsGoodItem all ops i
-  back : NoneBack (ports_before all (all_ports all)) first (ports_of i)
+  back : NoneBack (ports_before all) first (ports_of i)
 
 module _ (all : List ItemTree) (ops : List OpHead) where
   pub item_first : List ℕ → Option ℕ
@@ -187,14 +187,14 @@ module _ (all : List ItemTree) (ops : List OpHead) where
       record {
         own = (here.own, next.own);
         good = (here.good, next.good);
-        back = none_joins (ports_before all (all_ports all)) first (ports_of i) (flat_map ports_of rest) here.back next.back;
+        back = none_joins (ports_before all) first (ports_of i) (flat_map ports_of rest) here.back next.back;
       }
 
 -- what is so of a graph without faults
 pub record IsFaultless (all : List ItemTree) (ops : List OpHead) : Type 0 where
   pub differ : AreDifferent (item_names all)
   pub good : Each (IsGoodItem all ops) all
-  pub back : NoneBack (ports_before all (all_ports all)) 0 (all_ports all)
+  pub back : NoneBack (ports_before all) 0 (all_ports all)
 
 pub faultless : (all : List ItemTree) (ops : List OpHead) → name_faults all ops ≡ [] → IsFaultless all ops
 unfolding name_faults item_first

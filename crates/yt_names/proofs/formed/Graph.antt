@@ -11,8 +11,9 @@ use Rattle.yt_graph.specs.declared.port.OutHead.{OutHead}
 use Rattle.yt_graph.specs.declared.graph as graph
 use Rattle.yt_graph.specs.AstPicture.{PortDeclTree, ItemTree, input, output, resource, process}
 use Rattle.yt_graph.specs.AstWellFormed.{IsName, IsWritablePort, IsWritableItem, IsWritable}
+use Rattle.yt_graph.specs.Names.{is_name}
 use Rattle.yt_graph.specs.Picture.{PortTree, GraphTree}
-use Rattle.yt_graph.specs.WellFormed.{is_word, IsOutAnd, IsFineInput, IsFineOutput, IsFineVar, IsFinePort, IsFineGroup, IsUnderOne, IsFeedOfWidth, EndsWithin, AreDifferent, AreDifferentWithin, outer_names, block_uses_var}
+use Rattle.yt_graph.specs.WellFormed.{IsOutAnd, IsFineInput, IsFineOutput, IsFineVar, IsFinePort, IsFineGroup, IsUnderOne, IsFeedOfWidth, EndsWithin, AreDifferent, AreDifferentWithin, outer_names, block_uses_var, IsOwnGroup}
 use Rattle.yt_names.specs.declared.fault.NameFault.{NameFault}
 use Rattle.yt_names.specs.declared.target.Target.{Target}
 use Rattle.yt_names.specs.Names.{out_names}
@@ -26,10 +27,11 @@ use Rattle.yt_names.proofs.FinePorts.{IsFineHandler, handlers_fine}
 use Rattle.yt_names.proofs.formed.Lists.{Each, each_all, all_each, each_append, each_left, each_right, each_map}
 use Rattle.yt_names.proofs.formed.Places.{kept_within, some_then}
 use Rattle.yt_names.proofs.formed.Facts.{IsGoodPort, IsGoodItem, IsFaultless, faultless}
-use Rattle.yt_names.proofs.formed.Names.{all_differ, processes_differ, processes_apart, of_ports, of_vars, pairs_differ, AreOwnDifferent, ports_sel, vars_sel, port_pairs_are, var_pairs_are}
+use Rattle.yt_names.proofs.formed.Names.{all_differ, processes_differ, processes_apart, resources_apart, of_ports, of_vars, pairs_differ, AreOwnDifferent, ports_sel, vars_sel, port_pairs_are, var_pairs_are}
 use Rattle.yt_names.proofs.formed.Feeds.{IsFed, all_fed, leads, out_there, feed_there}
 use Rattle.yt_names.proofs.formed.Chains.{IsEnded, all_ended, ends}
-use Rattle.yt_names.proofs.formed.Groups.{IsKeyed, all_keyed, group_fine, all_under_one}
+use Rattle.yt_names.proofs.formed.Groups.{IsKeyed, all_keyed, group_fine, IsGrouped, all_grouped, all_under_one}
+use Rattle.yt_names.proofs.formed.Own.{own_group}
 use Rattle.yt_names.proofs.formed.NoVars.{block_none}
 
 -- what holds of each item by two rules
@@ -37,25 +39,25 @@ both : {X : Type 0} (P Q R : X → Type 0) → ((x : X) → P x → Q x → R x)
 both P Q R f [] a b = tt
 both P Q R f (x ∷ xs) a b = (f x a.0 b.0, both P Q R f xs a.1 b.1)
 
--- the resources' names are words
-group_words : (items : List ItemTree) → Each IsWritableItem items → Each (λ name. IsTrue (is_word name)) (flat_map resources_of items)
-group_words [] h = tt
-group_words (input w width period ∷ rest) h = group_words rest h.1
-group_words (output w path ∷ rest) h = group_words rest h.1
-group_words (resource w ∷ rest) h = (h.0, group_words rest h.1)
-group_words (process w inside vars ports ∷ rest) h = group_words rest h.1
+-- the names of resources may name something
+group_names : (items : List ItemTree) → Each IsWritableItem items → Each (λ name. IsTrue (is_name name)) (flat_map resources_of items)
+group_names [] h = tt
+group_names (input w width period ∷ rest) h = group_names rest h.1
+group_names (output w path ∷ rest) h = group_names rest h.1
+group_names (resource w ∷ rest) h = (h.0, group_names rest h.1)
+group_names (process w inside vars ports ∷ rest) h = group_names rest h.1
 
-own_word : (w : Word) (inside : Option Word) (vars : List VarDecl) → IsName w → Each (λ name. IsTrue (is_word name)) (own_resource w inside vars)
-own_word w (Some r) vars h = tt
-own_word w None [] h = tt
-own_word w None (v ∷ vs) h = (h, tt)
+own_name : (w : Word) (inside : Option Word) (vars : List VarDecl) → IsName w → Each (λ name. IsTrue (is_name name)) (own_resource w inside vars)
+own_name w (Some r) vars h = tt
+own_name w None [] h = tt
+own_name w None (v ∷ vs) h = (h, tt)
 
-own_words : (items : List ItemTree) → Each IsWritableItem items → Each (λ name. IsTrue (is_word name)) (flat_map own_resources_of items)
-own_words [] h = tt
-own_words (input w width period ∷ rest) h = own_words rest h.1
-own_words (output w path ∷ rest) h = own_words rest h.1
-own_words (resource w ∷ rest) h = own_words rest h.1
-own_words (process w inside vars ports ∷ rest) h = each_append _ (own_resource w inside vars) (flat_map own_resources_of rest) (own_word w inside vars h.0.0) (own_words rest h.1)
+own_names : (items : List ItemTree) → Each IsWritableItem items → Each (λ name. IsTrue (is_name name)) (flat_map own_resources_of items)
+own_names [] h = tt
+own_names (input w width period ∷ rest) h = own_names rest h.1
+own_names (output w path ∷ rest) h = own_names rest h.1
+own_names (resource w ∷ rest) h = own_names rest h.1
+own_names (process w inside vars ports ∷ rest) h = each_append _ (own_resource w inside vars) (flat_map own_resources_of rest) (own_name w inside vars h.0.0) (own_names rest h.1)
 
 -- inputs
 inputs_fine : (all : List ItemTree) (ops : List OpHead) (items : List ItemTree) → Each IsWritableItem items → Each (IsGoodItem all ops) items → Each IsFineInput (flat_map inputs_of items)
@@ -67,17 +69,17 @@ inputs_fine all ops (resource w ∷ rest) h g = inputs_fine all ops rest h.1 g.1
 inputs_fine all ops (process w inside vars ports ∷ rest) h g = inputs_fine all ops rest h.1 g.1
 
 -- variables
-vars_word : (owner : Word) → IsName owner → (vs : List VarDecl) → Each (λ v. IsName v.name) vs → Each (λ (v : graph.Var.Var). IsTrue (is_word v.process) × IsTrue (is_word v.name)) (map (var_of owner.text) vs)
-vars_word owner h [] e = tt
-vars_word owner h (v ∷ vs) e = ((h, e.0), vars_word owner h vs e.1)
+vars_name : (owner : Word) → IsName owner → (vs : List VarDecl) → Each (λ v. IsName v.name) vs → Each (λ (v : graph.Var.Var). IsTrue (is_name v.process) × IsTrue (is_name v.name)) (map (var_of owner.text) vs)
+vars_name owner h [] e = tt
+vars_name owner h (v ∷ vs) e = ((h, e.0), vars_name owner h vs e.1)
 
-vars_words : (items : List ItemTree) → Each IsWritableItem items → Each (λ (v : graph.Var.Var). IsTrue (is_word v.process) × IsTrue (is_word v.name)) (flat_map vars_of items)
-vars_words [] h = tt
-vars_words (input w width period ∷ rest) h = vars_words rest h.1
-vars_words (output w path ∷ rest) h = vars_words rest h.1
-vars_words (resource w ∷ rest) h = vars_words rest h.1
-vars_words (process w inside vars ports ∷ rest) h =
-    each_append _ (map (var_of w.text) vars) (flat_map vars_of rest) (vars_word w h.0.0 vars (all_each (λ v. IsName v.name) vars h.0.2)) (vars_words rest h.1)
+vars_names : (items : List ItemTree) → Each IsWritableItem items → Each (λ (v : graph.Var.Var). IsTrue (is_name v.process) × IsTrue (is_name v.name)) (flat_map vars_of items)
+vars_names [] h = tt
+vars_names (input w width period ∷ rest) h = vars_names rest h.1
+vars_names (output w path ∷ rest) h = vars_names rest h.1
+vars_names (resource w ∷ rest) h = vars_names rest h.1
+vars_names (process w inside vars ports ∷ rest) h =
+    each_append _ (map (var_of w.text) vars) (flat_map vars_of rest) (vars_name w h.0.0 vars (all_each (λ v. IsName v.name) vars h.0.2)) (vars_names rest h.1)
 
 -- names of one process that differ, by what has no fault
 ports_own : (all : List ItemTree) (ops : List OpHead) (i : ItemTree) → IsGoodItem all ops i → AreOwnDifferent ports_sel i
@@ -119,7 +121,7 @@ out_any g port out P o = (
 -- what is known of a port of the graph besides its handler and the others
 abbrev IsPlaced : GraphTree → PortTree → Type 0
 IsPlaced g p =
-    IsTrue (is_word p.process) × IsTrue (is_word p.name)
+    IsTrue (is_name p.process) × IsTrue (is_name p.name)
     × IsFeedOfWidth g p.params p.feed × EndsWithin g (length g.ports) p.feed
     × AreDifferent (map (λ o. o.name) p.outs)
     × IsFineGroup g p (block_uses_var p.body)
@@ -206,13 +208,18 @@ resolved_is_formed all ops written heads none =
     let w = each_written all ops none written in
     let apart_outer = processes_apart all all k.differ in
     let fine_vars =
-    both (λ (v : graph.Var.Var). IsTrue (is_word v.process) × IsTrue (is_word v.name)) (λ (v : graph.Var.Var). list_any (bytes_eq v.process) (outer_names g) ≡ false) (IsFineVar g)
-    (λ v a b. (a.0, a.1, b)) (flat_map vars_of all) (vars_words all w) (of_vars (λ y. list_any (bytes_eq y) (outer_names g) ≡ false) all apart_outer) in
+    both (λ (v : graph.Var.Var). IsTrue (is_name v.process) × IsTrue (is_name v.name)) (λ (v : graph.Var.Var). list_any (bytes_eq v.process) (outer_names g) ≡ false) (IsFineVar g)
+    (λ v a b. (a.0, a.1, b)) (flat_map vars_of all) (vars_names all w) (of_vars (λ y. list_any (bytes_eq y) (outer_names g) ≡ false) all apart_outer) in
+    let own =
+    both (IsGrouped all (resolved_groups all)) (λ (p : PortTree). list_any (bytes_eq p.process) (flat_map resources_of all) ≡ false) (IsOwnGroup g)
+    (λ p a b. own_group all p (processes_differ all k.differ) (counted all ops none).groups a b) (resolved_ports all ops 0 all)
+    (all_grouped all ops (processes_differ all k.differ)) (of_ports (λ y. list_any (bytes_eq y) (flat_map resources_of all) ≡ false) all ops 0 all (resources_apart all k.differ)) in
     record {
       counts = counted all ops none;
       names = all_differ all all k.differ;
-      group_words = each_all _ (resolved_groups all) (each_append _ (flat_map resources_of all) (flat_map own_resources_of all) (group_words all w) (own_words all w));
+      group_names = each_all _ (resolved_groups all) (each_append _ (flat_map resources_of all) (flat_map own_resources_of all) (group_names all w) (own_names all w));
       processes = each_all _ (resolved_ports all ops 0 all) (of_ports (λ y. list_any (bytes_eq y) (outer_names g) ≡ false) all ops 0 all apart_outer);
+      own_groups = each_all (IsOwnGroup g) (resolved_ports all ops 0 all) own;
       port_names = subst AreDifferentWithin (sym (port_pairs_are all ops 0 all)) (pairs_differ ports_sel all (processes_differ all k.differ) (each_map (IsGoodItem all ops) (AreOwnDifferent ports_sel) (ports_own all ops) all k.good));
       var_names = subst AreDifferentWithin (sym (var_pairs_are all)) (pairs_differ vars_sel all (processes_differ all k.differ) (each_map (IsGoodItem all ops) (AreOwnDifferent vars_sel) (vars_own all ops) all k.good));
       each_input = each_all IsFineInput (flat_map inputs_of all) (inputs_fine all ops all w k.good);

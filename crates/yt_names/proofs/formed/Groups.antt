@@ -1,5 +1,5 @@
 -- The resources of ports.
-use Rattle.std.proofs.Common.{◌≡◌, ℕ, ◌+◌, ◌≤◌, List, [], ◌∷◌, ◌++◌, length, Bool, true, false, ◌||◌, cond, Option, Some, None, true≢false, bytes_eq, refl, sym, ap, ◌∙◌, subst, if◌then◌else◌}
+use Rattle.std.proofs.Common.{◌≡◌, ℕ, ◌+◌, ◌≤◌, List, [], ◌∷◌, ◌++◌, length, Bool, true, false, cond, Option, Some, None, bytes_eq, refl, sym, ap, ◌∙◌, subst, if◌then◌else◌}
 use Rattle.std.specs.List.{list_any, flat_map}
 use Rattle.yt_graph.specs.declared.ast.Word.{Word}
 use Rattle.yt_graph.specs.declared.ast.VarDecl.{VarDecl}
@@ -9,24 +9,11 @@ use Rattle.yt_graph.specs.Picture.{PortTree, GraphTree}
 use Rattle.yt_graph.specs.WellFormed.{IsWithin, AreDifferent, IsFineGroup, IsUnderOne, block_uses_var}
 use Rattle.yt_names.specs.Faults.{inside_faults}
 use Rattle.yt_names.specs.Resolved.{number_among, resources_of, own_resource, own_resources_of, resolved_groups, resource_name, vars_of, resolved_port, resolved_ports_of, resolved_ports}
-use Rattle.yt_names.proofs.formed.Lists.{Each, each_append, each_map, each_mapped, each_of, none_each, same_bytes, bytes_turned, or_true, or_first}
+use Rattle.yt_names.proofs.formed.Lists.{Each, each_append, each_map, each_mapped, each_of, none_each, same_bytes, bytes_turned, or_first, any_left, any_right}
 use Rattle.yt_names.proofs.formed.Places.{number_within}
 use Rattle.yt_names.proofs.formed.Facts.{IsGoodItem}
 use Rattle.yt_names.proofs.formed.Feeds.{inside_there}
 use Rattle.yt_names.proofs.formed.Names.{process_name}
-
--- a name that is in a part of a list
-any_left : (t : List ℕ → Bool) (xs ys : List (List ℕ)) → list_any t xs ≡ true → list_any t (xs ++ ys) ≡ true
-any_left t [] ys e = absurd (true≢false (sym e))
-any_left t (x ∷ xs) ys e = by (t x) e (any_left t xs ys)
-  where
-    by : (b : Bool) → (b || list_any t xs) ≡ true → (list_any t xs ≡ true → list_any t (xs ++ ys) ≡ true) → (b || list_any t (xs ++ ys)) ≡ true
-    by true h r = refl
-    by false h r = r h
-
-any_right : (t : List ℕ → Bool) (xs ys : List (List ℕ)) → list_any t ys ≡ true → list_any t (xs ++ ys) ≡ true
-any_right t [] ys e = e
-any_right t (x ∷ xs) ys e = or_true (t x) (list_any t (xs ++ ys)) (any_right t xs ys e)
 
 -- a process that has variables has a resource that is there
 abbrev pub IsKeyed : List (List ℕ) → ItemTree → Type 0
@@ -135,10 +122,14 @@ under_one all groups p q a b same u v =
     ∙ ap (λ n. number_among (key_by n all) groups) same
     ∙ sym (b ∙ ap (λ x. if x then number_among (key_by q.process all) groups else 0) v)
 
+-- each port's resource is that of its process's name
+pub all_grouped : (all : List ItemTree) (ops : List OpHead) → AreDifferent (flat_map process_name all) → Each (IsGrouped all (resolved_groups all)) (resolved_ports all ops 0 all)
+all_grouped all ops d = grouped all ops 0 all (key_found all d)
+
 -- the ports of one process are under one resource
 pub all_under_one : (all : List ItemTree) (ops : List OpHead) → AreDifferent (flat_map process_name all) → Each (λ p. Each (IsUnderOne p) (resolved_ports all ops 0 all)) (resolved_ports all ops 0 all)
 all_under_one all ops d =
-    let h = grouped all ops 0 all (key_found all d) in
+    let h = all_grouped all ops d in
     each_map (IsGrouped all (resolved_groups all)) (λ p. Each (IsUnderOne p) (resolved_ports all ops 0 all))
     (λ p a. each_map (IsGrouped all (resolved_groups all)) (IsUnderOne p) (λ q b. under_one all (resolved_groups all) p q a b) (resolved_ports all ops 0 all) h)
     (resolved_ports all ops 0 all) h

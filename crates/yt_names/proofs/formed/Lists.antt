@@ -3,6 +3,7 @@ use Rattle.std.proofs.Common.{◌≡◌, ℕ, zero, suc, ◌+◌, ◌<◌, List,
 use Rattle.std.specs.Prelude.{◌==◌}
 use Rattle.std.specs.List.{All, list_any, position_from}
 use Rattle.std.specs.Option.{option_map}
+use Rattle.std.proofs.lemmas.List.Folds.{list_any-append}
 use Rattle.std.proofs.lemmas.Slice.Eq.{bytes_eq-Decides}
 use Rattle.std.proofs.lemmas.Bool.Decides.{nat_tests}
 use Rattle.yt_graph.specs.WellFormed.{AreDifferent, AreDifferentWithin}
@@ -209,3 +210,14 @@ found_head f x xs h = h x (or_first (bytes_eq x x) (list_any (bytes_eq x) xs) (s
 
 pub found_tail : (f : List ℕ → Option ℕ) (x : List ℕ) (xs : List (List ℕ)) → AreFound f (x ∷ xs) → AreFound f xs
 found_tail f x xs h y e = h y (or_true (bytes_eq y x) (list_any (bytes_eq y) xs) e)
+
+-- a name that is in one of two lists
+module _ {X : Type 0} (t : X → Bool) where
+  pub any_left : (xs ys : List X) → list_any t xs ≡ true → list_any t (xs ++ ys) ≡ true
+  any_left xs ys e = list_any-append t xs ys ∙ or_first (list_any t xs) (list_any t ys) e
+
+  pub any_right : (xs ys : List X) → list_any t ys ≡ true → list_any t (xs ++ ys) ≡ true
+  any_right xs ys e = list_any-append t xs ys ∙ or_true (list_any t xs) (list_any t ys) e
+
+  pub any_second : (xs ys : List X) → list_any t xs ≡ false → list_any t (xs ++ ys) ≡ true → list_any t ys ≡ true
+  any_second xs ys a e = sym (ap (λ b. b || list_any t ys) a) ∙ sym (list_any-append t xs ys) ∙ e

@@ -168,6 +168,12 @@ processes_differ items h =
     different_right (flat_map resources_of items) (flat_map process_name items)
     (different_right (flat_map in_name items ++ flat_map out_name items) (flat_map resources_of items ++ flat_map process_name items) (kinds_differ its_name its_one items h))
 
+-- no process has the name of a declared resource
+pub resources_apart : (items : List ItemTree) → AreDifferent (item_names items) → Each (λ w. list_any (bytes_eq w) (flat_map resources_of items) ≡ false) (flat_map process_name items)
+resources_apart items h =
+    apart (flat_map resources_of items) (flat_map process_name items)
+    (different_right (flat_map in_name items ++ flat_map out_name items) (flat_map resources_of items ++ flat_map process_name items) (kinds_differ its_name its_one items h))
+
 -- no process has the name of an input or an output
 pub processes_apart : (all items : List ItemTree) → AreDifferent (item_names items)
     → Each (λ w. list_any (bytes_eq w) (map (λ i. i.name) (flat_map inputs_of items) ++ map (λ o. o.name) (flat_map (outputs_of all) items)) ≡ false) (flat_map process_name items)

@@ -4,10 +4,11 @@ use Rattle.std.proofs.lemmas.Bool.Decides.{nat_tests}
 use Rattle.yt_graph.specs.declared.expr.Op2.{Op2}
 use Rattle.yt_graph.specs.declared.ast_expr.AstExpr.{AstExpr}
 use Rattle.yt_graph.specs.AstPicture.{AstExprTree, two_sides, more_values, ast_expr_tree, ast_exprs_tree}
+use Rattle.yt_graph.specs.AstWellFormed.{ast_expr_depth, ast_exprs_depth}
 use Rattle.yt_parser.specs.declared.cursor.Stop.{Stop}
 use Rattle.yt_parser.specs.declared.cursor.Stop.TheVariants.{Syntax, Memory}
 use Rattle.yt_parser.specs.Lexemes.{Tok}
-use Rattle.yt_parser.specs.Grammar.{right_rank, expr_depth, exprs_depth}
+use Rattle.yt_parser.specs.Grammar.{right_rank}
 use Rattle.yt_parser.specs.Reading.{Reading, got, stuck, Reader, and_then, made, behind, op_at, chain, turns_at, exprs_of, rank_reader, expr_reader}
 use Rattle.yt_parser.specs.Results.{IsStop}
 
@@ -33,15 +34,15 @@ then_made (got x rest) f g = refl
 then_made (stuck rest) f g = refl
 
 -- one operator and its right side
-pub chain-link : (inner : ℕ → Reader AstExprTree) (room rank n m : ℕ) (left next : AstExprTree) (op : Op2) (s rest : List Tok) → n ≡ suc m → op_at rank s ≡ Some op → expr_depth left ≤ room → made (two_sides op left) (inner (right_rank op) (behind s)) ≡ got next rest → chain inner room rank n left s ≡ chain inner room rank m next rest
+pub chain-link : (inner : ℕ → Reader AstExprTree) (room rank n m : ℕ) (left next : AstExprTree) (op : Op2) (s rest : List Tok) → n ≡ suc m → op_at rank s ≡ Some op → ast_expr_depth left ≤ room → made (two_sides op left) (inner (right_rank op) (behind s)) ≡ got next rest → chain inner room rank n left s ≡ chain inner room rank m next rest
 chain-link inner room rank n m left next op s rest q o h r =
-    let fits : nat_le (expr_depth left) room ≡ true = grind (arith, nat_tests) in
+    let fits : nat_le (ast_expr_depth left) room ≡ true = grind (arith, nat_tests) in
     rw (q, o, fits, then_made (inner (right_rank op) (behind s)) (two_sides op left) (chain inner room rank m), r) refl
 
-pub chain-stop : (inner : ℕ → Reader AstExprTree) (room rank n m : ℕ) (left : AstExprTree) (op : Op2) (s rest : List Tok) (e : Stop) → n ≡ suc m → op_at rank s ≡ Some op → expr_depth left ≤ room → IsStop (made (two_sides op left) (inner (right_rank op) (behind s))) e rest → IsStop (chain inner room rank n left s) e rest
+pub chain-stop : (inner : ℕ → Reader AstExprTree) (room rank n m : ℕ) (left : AstExprTree) (op : Op2) (s rest : List Tok) (e : Stop) → n ≡ suc m → op_at rank s ≡ Some op → ast_expr_depth left ≤ room → IsStop (made (two_sides op left) (inner (right_rank op) (behind s))) e rest → IsStop (chain inner room rank n left s) e rest
 chain-stop inner room rank n m left op s rest Memory q o h r = record {}
 chain-stop inner room rank n m left op s rest Syntax q o h r =
-    let fits : nat_le (expr_depth left) room ≡ true = grind (arith, nat_tests) in
+    let fits : nat_le (ast_expr_depth left) room ≡ true = grind (arith, nat_tests) in
     rw (q, o, fits, then_made (inner (right_rank op) (behind s)) (two_sides op left) (chain inner room rank m), r) refl
 
 -- no operator of the rank comes next
@@ -50,10 +51,10 @@ chain-end inner room rank zero left s o = refl
 chain-end inner room rank (suc n) left s o = rw o refl
 
 -- there is no room for the left side
-pub chain-full : (inner : ℕ → Reader AstExprTree) (room rank n : ℕ) (left : AstExprTree) (op : Op2) (s : List Tok) → op_at rank s ≡ Some op → room < expr_depth left → chain inner room rank n left s ≡ got left s
+pub chain-full : (inner : ℕ → Reader AstExprTree) (room rank n : ℕ) (left : AstExprTree) (op : Op2) (s : List Tok) → op_at rank s ≡ Some op → room < ast_expr_depth left → chain inner room rank n left s ≡ got left s
 chain-full inner room rank zero left op s o h = refl
 chain-full inner room rank (suc n) left op s o h =
-    let full : nat_le (expr_depth left) room ≡ false = grind (arith, nat_tests) in
+    let full : nat_le (ast_expr_depth left) room ≡ false = grind (arith, nat_tests) in
     rw (o, full) refl
 
 -- the tree of a list of expressions, by their pictures
@@ -62,6 +63,6 @@ exprs_of-map [] = refl
 exprs_of-map (e ∷ es) = ap (more_values (ast_expr_tree e)) (exprs_of-map es)
 
 -- one more expression
-pub exprs_depth-more : (es : List AstExpr) (e : AstExpr) → exprs_depth (ast_exprs_tree (es ++ e ∷ [])) ≡ max (exprs_depth (ast_exprs_tree es)) (expr_depth (ast_expr_tree e))
-exprs_depth-more [] e = omega arith
-exprs_depth-more (f ∷ es) e = omega (arith, exprs_depth-more es e)
+pub ast_exprs_depth-more : (es : List AstExpr) (e : AstExpr) → ast_exprs_depth (ast_exprs_tree (es ++ e ∷ [])) ≡ max (ast_exprs_depth (ast_exprs_tree es)) (ast_expr_depth (ast_expr_tree e))
+ast_exprs_depth-more [] e = omega arith
+ast_exprs_depth-more (f ∷ es) e = omega (arith, ast_exprs_depth-more es e)

@@ -1,17 +1,19 @@
 -- The tokens of a text that has no fault lie in it, and can be those of a graph.
-use Rattle.std.proofs.Common.{ℕ, zero, suc, ◌≡◌, ◌+◌, ◌-◌, ◌<◌, ◌≤◌, ◌^◌, ◌==◌, ◌&&◌, nat_lt, Bool, true, false, IsTrue, if◌then◌else◌, List, [], ◌∷◌, length, take, drop, length-take, length-drop, Option, None, Some, Ok, Err, ℤ, pos, refl, ap, arith}
-use Rattle.std.specs.List.{prefix_len}
+use Rattle.std.proofs.Common.{ℕ, zero, suc, ◌≡◌, ◌+◌, ◌-◌, ◌<◌, ◌≤◌, ◌^◌, ◌==◌, ◌&&◌, nat_lt, Bool, true, false, if◌then◌else◌, List, [], ◌∷◌, length, take, drop, length-take, length-drop, Option, None, Some, Ok, Err, ℤ, pos, refl, ap, arith}
+use Rattle.std.specs.List.{prefix_len, list_all}
 use Rattle.std.proofs.lemmas.Grind.{common_steps}
 use Rattle.std.proofs.lemmas.Bool.Decides.{nat_tests}
 use Rattle.yt_base.specs.Digits.{is_digits, value_of, signed_of_text}
 use Rattle.yt_graph.specs.declared.place.Place.{Place}
+use Rattle.std.specs.Prelude.{nat_le}
+use Rattle.yt_graph.specs.Names.{begins_as_word, is_name}
 use Rattle.yt_lexer.specs.First.{is_letter, is_digit, is_word_byte, is_reserved, symbol_len, word_token, number_token, first_token}
 use Rattle.yt_lexer.specs.Lexes.{next_from, IsTokenAt, Lexes}
 use Rattle.yt_lexer.specs.declared.token.Token.{Token}
 use Rattle.yt_lexer.specs.declared.token.TokenKind.{TokenKind}
 use Rattle.yt_lexer.specs.declared.token.TokenKind.TheVariants.{Word, Key, Number, Symbol}
 use Rattle.yt_lexer.specs.declared.token.LexFault.TheVariants.{BadByte, LongName}
-use Rattle.yt_parser.specs.Lexemes.{lexeme_of, digits, begins_with_letter, IsLexeme, AreTokens, toks_of}
+use Rattle.yt_parser.specs.Lexemes.{lexeme_of, digits, IsLexeme, AreTokens, toks_of}
 use Rattle.yt_parser.specs.Signs.{IsSpan, AreSpans}
 
 -- a token of so many bytes in front of a text lies in it and can be a graph's
@@ -20,15 +22,21 @@ pub record IsFine (text : List ℕ) (kind : TokenKind) (len : ℕ) : Type 0 wher
   pub says : IsLexeme (lexeme_of kind (take len text))
 
 -- the bytes of the longest front whose bytes are of a kind are of that kind
-prefix_len-step : (p : ℕ → Bool) (x : ℕ) (xs : List ℕ) (b : Bool) → p x ≡ b → prefix_len p (take (prefix_len p xs) xs) ≡ length (take (prefix_len p xs) xs) → prefix_len p (take (prefix_len p (x ∷ xs)) (x ∷ xs)) ≡ length (take (prefix_len p (x ∷ xs)) (x ∷ xs))
-prefix_len-step p x xs true e h =
+front_step : (p : ℕ → Bool) (x : ℕ) (xs : List ℕ) (b : Bool) → p x ≡ b → list_all p (take (prefix_len p xs) xs) ≡ true → list_all p (take (prefix_len p (x ∷ xs)) (x ∷ xs)) ≡ true
+front_step p x xs true e h =
     let more : 1 + prefix_len p xs ≡ suc (prefix_len p xs) = omega arith in
-    rw (e, more, e) (omega (arith, h))
-prefix_len-step p x xs false e h = rw e refl
+    rw (e, more, e) h
+front_step p x xs false e h = rw e refl
 
-prefix_len-self : (p : ℕ → Bool) (xs : List ℕ) → prefix_len p (take (prefix_len p xs) xs) ≡ length (take (prefix_len p xs) xs)
-prefix_len-self p [] = refl
-prefix_len-self p (x ∷ xs) = prefix_len-step p x xs (p x) refl (prefix_len-self p xs)
+front_all : (p : ℕ → Bool) (xs : List ℕ) → list_all p (take (prefix_len p xs) xs) ≡ true
+front_all p [] = refl
+front_all p (x ∷ xs) = front_step p x xs (p x) refl (front_all p xs)
+
+-- what makes a word a name
+is_name-parts : (word : List ℕ) → begins_as_word word ≡ true → list_all is_word_byte word ≡ true → length word ≤ 32 → is_reserved word ≡ false → is_name word ≡ true
+is_name-parts word begins all short free =
+    let fits : nat_le (length word) 32 ≡ true = grind (arith, nat_tests) in
+    rw (begins, all, fits, free) refl
 
 -- as many bytes as a front has are that front
 take-front : {X : Type 0} (n : ℕ) (xs : List X) → take (length (take n xs)) xs ≡ take n xs
@@ -37,21 +45,22 @@ take-front (suc n) [] = refl
 take-front (suc n) (x ∷ xs) = ap (λ ys. x ∷ ys) (take-front n xs)
 
 -- a front begins as the whole does
-begins-front : (n : ℕ) (b : ℕ) (bs : List ℕ) → 0 < n → is_letter b ≡ true → IsTrue (begins_with_letter (take n (b ∷ bs)))
+begins-front : (n : ℕ) (b : ℕ) (bs : List ℕ) → 0 < n → is_letter b ≡ true → begins_as_word (take n (b ∷ bs)) ≡ true
 begins-front zero b bs h e = absurd (omega arith)
 begins-front (suc n) b bs h e = e
 
 -- what a word is
-word_by : (place : Place) (word : List ℕ) (p : TokenKind × ℕ) (long reserved : Bool) → nat_lt 32 (length word) ≡ long → is_reserved word ≡ reserved → IsTrue (begins_with_letter word) → prefix_len is_word_byte word ≡ length word → (if long then Err (LongName place) else Ok ((if reserved then Key else Word), length word)) ≡ Ok p → (p.1 ≡ length word) × IsLexeme (lexeme_of p.0 word)
+word_by : (place : Place) (word : List ℕ) (p : TokenKind × ℕ) (long reserved : Bool) → nat_lt 32 (length word) ≡ long → is_reserved word ≡ reserved → begins_as_word word ≡ true → list_all is_word_byte word ≡ true → (if long then Err (LongName place) else Ok ((if reserved then Key else Word), length word)) ≡ Ok p → (p.1 ≡ length word) × IsLexeme (lexeme_of p.0 word)
 word_by place word p true reserved l r h k e = absurd cc
 word_by place word p false true l r h k e =
     let same : p ≡ (Key, length word) = cc in
     rw same (refl, tt)
 word_by place word p false false l r h k e =
     let same : p ≡ (Word, length word) = cc in
-    rw same (refl, record { short = grind (arith, nat_tests); begins = h; goes_on = k; free = r })
+    let short : length word ≤ 32 = grind (arith, nat_tests) in
+    rw same (refl, is_name-parts word h k short r)
 
-word_says : (place : Place) (word : List ℕ) (p : TokenKind × ℕ) → IsTrue (begins_with_letter word) → prefix_len is_word_byte word ≡ length word → word_token place word ≡ Ok p → (p.1 ≡ length word) × IsLexeme (lexeme_of p.0 word)
+word_says : (place : Place) (word : List ℕ) (p : TokenKind × ℕ) → begins_as_word word ≡ true → list_all is_word_byte word ≡ true → word_token place word ≡ Ok p → (p.1 ≡ length word) × IsLexeme (lexeme_of p.0 word)
 unfolding word_token
 word_says place word p h k e = word_by place word p (nat_lt 32 (length word)) (is_reserved word) refl refl h k e
 
@@ -118,7 +127,7 @@ unfolding first_token
 fine_by place b bs p true digit l d e =
     let word : is_word_byte b ≡ true = rw l refl in
     let n = prefix_len is_word_byte (b ∷ bs) in
-    fine_front (b ∷ bs) n p (word_says place (take n (b ∷ bs)) p (begins-front n b bs (some_front is_word_byte b bs word) l) (prefix_len-self is_word_byte (b ∷ bs)) (first_of (is_letter b) (is_digit b) _ _ _ (Ok p) l e))
+    fine_front (b ∷ bs) n p (word_says place (take n (b ∷ bs)) p (begins-front n b bs (some_front is_word_byte b bs word) l) (front_all is_word_byte (b ∷ bs)) (first_of (is_letter b) (is_digit b) _ _ _ (Ok p) l e))
 fine_by place b bs p false true l d e =
     let n = prefix_len is_digit (b ∷ bs) in
     fine_front (b ∷ bs) n p (number_says place n b bs p (some_front is_digit b bs d) d (second_of (is_letter b) (is_digit b) _ _ _ (Ok p) l d e))

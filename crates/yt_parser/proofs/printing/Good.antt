@@ -15,12 +15,12 @@ use Rattle.yt_parser.specs.declared.sign.Keyword.TheVariants as keys
 use Rattle.yt_parser.specs.declared.sign.Mark.TheVariants.{LeftBrace, RightBrace, LeftParen, RightParen, Comma, Dot, Assign, Minus}
 use Rattle.yt_parser.specs.Lexemes.{Lexeme, word, key, mark, digits, IsLexeme}
 use Rattle.yt_parser.specs.Grammar.{op_lexeme}
-use Rattle.yt_lexer.specs.First.{is_name}
+use Rattle.yt_graph.specs.Names.{is_name}
 use Rattle.yt_parser.specs.Writable.{is_count, is_start, is_expr, are_args, are_exprs, is_stmt, are_stmts, is_path, is_source, is_every, is_out, is_var, is_param, is_port, is_inside, is_item, is_writable}
 use Rattle.yt_parser.specs.CanonicalText.{Piece, say, space, feed, indent, number_piece, expr_layout, exprs_layout, more_layout, braced, stmt_layout, stmts_layout, path_layout, source_layout, next_param_layout, params_layout, every_layout, out_layout, start_layout, var_layout, port_layout, inside_layout, item_layout, layout_of}
 use Rattle.yt_parser.proofs.printing.Layouts.{lexemes_in, AreLexemes, is_free, keeps, is_apart}
 use Rattle.yt_parser.proofs.printing.Texts.{both}
-use Rattle.yt_parser.proofs.printing.Written.{name_from, count_from, op_ok}
+use Rattle.yt_parser.proofs.printing.Written.{count_from, op_ok}
 
 -- the tokens are kept apart and can stand in a text
 pub record IsGood (ps : List Piece) : Type 0 where
@@ -44,7 +44,7 @@ indent_good n ps h = record { apart = h.apart; can = h.can }
 
 -- a reserved word, a name and a number in front of a space, a line feed or a symbol
 word_good : (w : List ℕ) (ps : List Piece) → is_name w ≡ true → is_free ps ≡ true → IsGood ps → IsGood (say (word w) ∷ ps)
-word_good w ps h free good = say_good (word w) ps (name_from w h) free good
+word_good w ps h free good = say_good (word w) ps h free good
 
 digits_good : (n : ℤ) (ps : List Piece) → is_count n ≡ true → is_free ps ≡ true → IsGood ps → IsGood (say (digits n) ∷ ps)
 digits_good n ps h free good = say_good (digits n) ps (count_from n h) free good

@@ -1,22 +1,24 @@
 -- Each token's own text is read as this token, where nothing behind it goes on with it.
-use Rattle.std.proofs.Common.{ℕ, ◌≡◌, ◌<◌, ◌≤◌, ◌^◌, List, [], ◌∷◌, ◌++◌, length, take, Bool, true, false, Ok, Some, refl, ap, ◌∙◌, sym, arith}
+use Rattle.std.proofs.Common.{ℕ, ◌≡◌, ◌<◌, ◌≤◌, ◌^◌, List, [], ◌∷◌, ◌++◌, length, take, Bool, true, false, ◌&&◌, not, Ok, Some, refl, ap, ◌∙◌, sym, arith}
 use Rattle.std.proofs.lemmas.Grind.{common_steps}
 use Rattle.std.proofs.lemmas.Bool.Decides.{nat_tests}
 use Rattle.std.proofs.lemmas.List.{take_at}
 use Rattle.std.proofs.lemmas.List.Folds.{prefix_len-append}
-use Rattle.std.specs.Prelude.{ℤ, pos, negsuc, if◌then◌else◌}
+use Rattle.std.specs.Prelude.{ℤ, pos, negsuc, nat_le, if◌then◌else◌}
 use Rattle.std.proofs.lemmas.Fmt.{decimal_nonempty}
 use Rattle.std.specs.Fmt.{decimal}
 use Rattle.std.specs.List.{prefix_len, list_all}
 use Rattle.yt_base.specs.Digits.{signed_of_text}
 use Rattle.yt_base.proofs.Decimals.{signed_of_text-decimal, decimal_passes}
 use Rattle.yt_graph.specs.declared.place.Place.{Place}
+use Rattle.yt_graph.specs.Names.{begins_as_word, is_name}
 use Rattle.yt_lexer.specs.First.{is_blank, blank_len, is_letter, is_digit, is_word_byte, is_reserved, symbol_len, word_token, number_token, symbol_token, first_token}
 use Rattle.yt_lexer.specs.declared.token.TokenKind.{TokenKind}
 use Rattle.yt_lexer.specs.declared.token.TokenKind.TheVariants.{Word, Key, Number, Symbol}
 use Rattle.yt_parser.specs.declared.sign.Mark.{Mark}
-use Rattle.yt_parser.specs.Lexemes.{keyword_text, mark_text, Lexeme, word, key, mark, digits, lexeme_of, IsName, IsLexeme}
+use Rattle.yt_parser.specs.Lexemes.{keyword_text, mark_text, Lexeme, word, key, mark, digits, lexeme_of, IsLexeme}
 use Rattle.yt_parser.specs.CanonicalText.{lexeme_text}
+use Rattle.yt_parser.proofs.printing.Texts.{both}
 use Rattle.yt_parser.proofs.printing.Marks.{first_passes, is_plain, is_key, StopsMark, symbol_len-mark, is_mark}
 
 -- the bytes don't go on with the token
@@ -38,6 +40,15 @@ pub record IsRead (l : Lexeme) (bytes more : List ℕ) : Type 0 where
 none_passes : (p : ℕ → Bool) (more : List ℕ) → first_passes p more ≡ false → prefix_len p more ≡ 0
 none_passes p [] h = refl
 none_passes p (b ∷ bs) h = rw h refl
+
+-- the longest front that passes is all of it
+all_prefix : (p : ℕ → Bool) (w : List ℕ) → list_all p w ≡ true → prefix_len p w ≡ length w
+all_prefix p [] h = refl
+all_prefix p (b ∷ bs) h =
+    let here : p b ≡ true = grind (arith, common_steps) in
+    let rest : list_all p bs ≡ true = grind (arith, common_steps) in
+    let more : prefix_len p bs ≡ length bs = all_prefix p bs rest in
+    grind (arith, common_steps)
 
 -- all pass, and nothing behind
 all_pass : (p : ℕ → Bool) (w more : List ℕ) → prefix_len p w ≡ length w → first_passes p more ≡ false → prefix_len p (w ++ more) ≡ length w
@@ -89,9 +100,11 @@ blank_none b bs h = rw h refl
 word_read : (w more : List ℕ) (r : Bool) → is_plain w ≡ true → is_reserved w ≡ r → first_passes is_word_byte more ≡ false → IsReadAs (word_kind r) w more
 word_read [] more r h k stop = absurd (cc)
 word_read (b ∷ bs) more r h k stop =
-    let letter : is_letter b ≡ true = grind (arith, nat_tests) in
+    let letter : is_letter b ≡ true = (both (is_letter b) _ h).0 in
+    let fits : nat_le (length (b ∷ bs)) 32 ≡ true = (both (list_all is_word_byte (b ∷ bs)) _ (both (is_letter b) _ h).1).1 in
     let short : length (b ∷ bs) ≤ 32 = grind (arith, nat_tests) in
-    let goes : prefix_len is_word_byte (b ∷ bs) ≡ length (b ∷ bs) = grind (arith, nat_tests) in
+    let word : list_all is_word_byte (b ∷ bs) ≡ true = (both (list_all is_word_byte (b ∷ bs)) _ (both (is_letter b) _ h).1).0 in
+    let goes : prefix_len is_word_byte (b ∷ bs) ≡ length (b ∷ bs) = all_prefix is_word_byte (b ∷ bs) word in
     let whole : prefix_len is_word_byte (b ∷ bs ++ more) ≡ length (b ∷ bs) = all_pass is_word_byte (b ∷ bs) more goes stop in
     record {
       some = grind (arith, common_steps);
@@ -104,14 +117,6 @@ word_read (b ∷ bs) more r h k stop =
 
 symbol_token_is : (place : Place) (len : ℕ) → 0 < len → symbol_token place len ≡ Ok (Symbol, len)
 symbol_token_is place len h = grind (arith, nat_tests)
-
-all_prefix : (p : ℕ → Bool) (w : List ℕ) → list_all p w ≡ true → prefix_len p w ≡ length w
-all_prefix p [] h = refl
-all_prefix p (b ∷ bs) h =
-    let here : p b ≡ true = grind (arith, common_steps) in
-    let rest : list_all p bs ≡ true = grind (arith, common_steps) in
-    let more : prefix_len p bs ≡ length bs = all_prefix p bs rest in
-    grind (arith, common_steps)
 
 -- a number's digits
 number_token_is : (place : Place) (ds : List ℕ) (n : ℤ) → signed_of_text ds ≡ Some n → number_token place ds ≡ Ok (Number n, length ds)
@@ -153,15 +158,25 @@ mark_read m more stop =
 of_kind : (l : Lexeme) (kind : TokenKind) (bytes more : List ℕ) → IsReadAs kind bytes more → lexeme_of kind bytes ≡ l → IsRead l bytes more
 of_kind l kind bytes more h means = record { kind = kind; some = h.some; solid = h.solid; read = h.read; means = means }
 
-plain_name : (w : List ℕ) → IsName w → is_plain w ≡ true
+plain_by : (begins goes short free : Bool) → (begins && (goes && (short && free))) ≡ true → ((begins && (goes && short)) ≡ true) × (free ≡ true)
+plain_by true true true true h = (refl, refl)
+plain_by true true true false h = absurd cc
+plain_by true true false free h = absurd cc
+plain_by true false short free h = absurd cc
+plain_by false goes short free h = absurd cc
+
+not_true : (b : Bool) → not b ≡ true → b ≡ false
+not_true true h = absurd cc
+not_true false h = refl
+
+-- what a name is
+plain_name : (w : List ℕ) → is_name w ≡ true → (is_plain w ≡ true) × (is_reserved w ≡ false)
 plain_name w h =
-    let short = h.short in
-    let begins = h.begins in
-    let goes_on = h.goes_on in
-    grind (arith, nat_tests)
+    let parts = plain_by (begins_as_word w) (list_all is_word_byte w) (nat_le (length w) 32) (not (is_reserved w)) h in
+    (parts.0, not_true (is_reserved w) parts.1)
 
 pub lexeme_read : (l : Lexeme) (more : List ℕ) → IsLexeme l → Stops l more → IsRead l (lexeme_text l) more
-lexeme_read (word w) more h stop = of_kind (word w) Word w more (word_read w more false (plain_name w h) h.free stop) refl
+lexeme_read (word w) more h stop = of_kind (word w) Word w more (word_read w more false (plain_name w h).0 (plain_name w h).1 stop) refl
 lexeme_read (key k) more h stop =
     let i = is_key k in
     of_kind (key k) Key (keyword_text k) more (word_read (keyword_text k) more true i.plain i.reserved stop) (ap key i.means)

@@ -2,13 +2,14 @@
 use Rattle.std.proofs.Common.{ℕ, ◌≡◌, List, [], ◌∷◌, ◌++◌, length, Bool, true, false, ◌&&◌, refl, arith}
 use Rattle.std.proofs.lemmas.Grind.{common_steps}
 use Rattle.std.specs.Prelude.{◌==◌, nat_le}
-use Rattle.std.specs.List.{prefix_len}
+use Rattle.std.specs.List.{list_all}
+use Rattle.yt_graph.specs.Names.{begins_as_word}
 use Rattle.yt_lexer.specs.First.{is_blank, is_letter, is_digit, is_word_byte, is_reserved, symbol_len, is_symbol, takes_equals}
 use Rattle.yt_parser.specs.declared.sign.Keyword.{Keyword}
 use Rattle.yt_parser.specs.declared.sign.Keyword.TheVariants.{Input, Output, Resource, Process, In, Var, Port, From, Out, Every, Period, Let, Send, If, Else, Repeat, Max, And, Or, Not, Burst, Within, Native, Cost, Node, Link, Delay}
 use Rattle.yt_parser.specs.declared.sign.Mark.{Mark}
 use Rattle.yt_parser.specs.declared.sign.Mark.TheVariants.{LeftBrace, RightBrace, LeftParen, RightParen, Comma, Dot, Assign, Plus, Minus, Star, Slash, Percent, Less, LessEqual, Greater, GreaterEqual, Equal, NotEqual}
-use Rattle.yt_parser.specs.Lexemes.{keyword_text, mark_text, keyword_of, mark_of, begins_with_letter}
+use Rattle.yt_parser.specs.Lexemes.{keyword_text, mark_text, keyword_of, mark_of}
 
 -- a test of the first byte, which the empty list fails
 abbrev pub first_passes : (ℕ → Bool) → List ℕ → Bool
@@ -17,7 +18,7 @@ first_passes p (b ∷ bs) = p b
 
 -- bytes that a word of the text can be
 abbrev pub is_plain : List ℕ → Bool
-is_plain w = nat_le (length w) 32 && (begins_with_letter w && (prefix_len is_word_byte w == length w))
+is_plain w = begins_as_word w && (list_all is_word_byte w && nat_le (length w) 32)
 
 -- what is known of a reserved word's bytes
 pub record IsKey (k : Keyword) : Type 0 where

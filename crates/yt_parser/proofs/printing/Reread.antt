@@ -5,11 +5,12 @@ use Rattle.std.specs.Prelude.{nat_le}
 use Rattle.yt_graph.specs.declared.ast.Word.{Word}
 use Rattle.yt_graph.specs.declared.ast.Num.{Num}
 use Rattle.yt_graph.specs.AstPicture.{AstExprTree, number, name, minus, negation, two_sides, paren, call_of, AstExprsTree, no_values, more_values, AstStmtTree, let_local, assign, send_on, when_only, when_else, turns, AstBlockTree, no_stmts, more_stmts}
+use Rattle.yt_graph.specs.AstWellFormed.{ast_expr_depth, ast_exprs_depth, ast_stmt_depth, ast_block_depth}
 use Rattle.yt_parser.specs.declared.sign.Keyword.TheVariants as keys
 use Rattle.yt_parser.specs.declared.sign.Mark.TheVariants.{LeftBrace, RightBrace, LeftParen, RightParen, Comma, Assign, Minus}
 use Rattle.yt_parser.specs.Lexemes.{Lexeme, word, key, mark, digits, Tok}
 use Rattle.yt_parser.specs.Forms.{Form, ◌▹◌, nothing, says, symbol, named, counted}
-use Rattle.yt_parser.specs.Grammar.{op_lexeme, rank_of, left_rank, right_rank, within, expr_form, args_form, more_form, expr_depth, exprs_depth, value_form, more_values_form, values_form, stmt_form, stmts_form, stmt_depth, stmts_depth}
+use Rattle.yt_parser.specs.Grammar.{op_lexeme, rank_of, left_rank, right_rank, within, expr_form, args_form, more_form, value_form, more_values_form, values_form, stmt_form, stmts_form}
 use Rattle.yt_parser.specs.SamePlaces.{word_at_start, num_at_start, expr_at_start, exprs_at_start, stmt_at_start, stmts_at_start}
 use Rattle.yt_parser.specs.Writable.{is_expr, are_args, are_exprs, is_stmt, are_stmts}
 use Rattle.yt_parser.specs.CanonicalText.{Piece, say, space, feed, indent, number_piece, expr_layout, exprs_layout, more_layout, braced, stmt_layout, stmts_layout}
@@ -92,7 +93,7 @@ same_rank : (a b : AstExprTree) → expr_at_start a ≡ expr_at_start b → rank
 same_rank a b h = sym (rank_at_start a) ∙ ap rank_of h ∙ rank_at_start b
 
 mutual
-  depth_at_start : (e : AstExprTree) → expr_depth (expr_at_start e) ≡ expr_depth e
+  depth_at_start : (e : AstExprTree) → ast_expr_depth (expr_at_start e) ≡ ast_expr_depth e
   depth_at_start (number n) = refl
   depth_at_start (name w) = refl
   depth_at_start (minus e) = ap (λ (n : ℕ). 1 + n) (depth_at_start e)
@@ -104,18 +105,18 @@ mutual
   depth_at_start (paren e) = ap (λ (n : ℕ). 1 + n) (depth_at_start e)
   depth_at_start (call_of w args) = ap (λ (n : ℕ). 1 + n) (depths_at_start args)
 
-  depths_at_start : (es : AstExprsTree) → exprs_depth (exprs_at_start es) ≡ exprs_depth es
+  depths_at_start : (es : AstExprsTree) → ast_exprs_depth (exprs_at_start es) ≡ ast_exprs_depth es
   depths_at_start no_values = refl
   depths_at_start (more_values e rest) =
       let a = depth_at_start e in
       let b = depths_at_start rest in
       cc
 
-same_depth : (a b : AstExprTree) → expr_at_start a ≡ expr_at_start b → expr_depth a ≡ expr_depth b
-same_depth a b h = sym (depth_at_start a) ∙ ap expr_depth h ∙ depth_at_start b
+same_depth : (a b : AstExprTree) → expr_at_start a ≡ expr_at_start b → ast_expr_depth a ≡ ast_expr_depth b
+same_depth a b h = sym (depth_at_start a) ∙ ap ast_expr_depth h ∙ depth_at_start b
 
 mutual
-  blocks_at_start : (s : AstStmtTree) → stmt_depth (stmt_at_start s) ≡ stmt_depth s
+  blocks_at_start : (s : AstStmtTree) → ast_stmt_depth (stmt_at_start s) ≡ ast_stmt_depth s
   blocks_at_start (let_local w e) = refl
   blocks_at_start (assign w e) = refl
   blocks_at_start (send_on w es) = refl
@@ -126,15 +127,15 @@ mutual
       cc
   blocks_at_start (turns e most body) = ap (λ (n : ℕ). 1 + n) (all_blocks_at_start body)
 
-  all_blocks_at_start : (b : AstBlockTree) → stmts_depth (stmts_at_start b) ≡ stmts_depth b
+  all_blocks_at_start : (b : AstBlockTree) → ast_block_depth (stmts_at_start b) ≡ ast_block_depth b
   all_blocks_at_start no_stmts = refl
   all_blocks_at_start (more_stmts s rest) =
       let a = blocks_at_start s in
       let b = all_blocks_at_start rest in
       cc
 
-pub same_blocks : (a b : AstBlockTree) → stmts_at_start a ≡ stmts_at_start b → stmts_depth a ≡ stmts_depth b
-same_blocks a b h = sym (all_blocks_at_start a) ∙ ap stmts_depth h ∙ all_blocks_at_start b
+pub same_blocks : (a b : AstBlockTree) → stmts_at_start a ≡ stmts_at_start b → ast_block_depth a ≡ ast_block_depth b
+same_blocks a b h = sym (all_blocks_at_start a) ∙ ap ast_block_depth h ∙ all_blocks_at_start b
 
 -- brackets moved to the right, in what tokens say
 pub moved : (toks : List Tok) (a b : List Piece) → says_of toks ≡ lexemes_in a → a ≡ b → says_of toks ≡ lexemes_in b
@@ -214,8 +215,8 @@ value_reads : (e : AstExprTree) (toks : List Tok) (ps : List Piece) → is_expr 
 value_reads e toks ps h k =
     let r = expr_reads 32 e toks ps h k in
     let a = r.takes in
-    let same : expr_depth r.got ≡ expr_depth e = same_depth r.got e r.alike in
-    let low : expr_depth e ≤ 32 = expr_within 32 e h in
+    let same : ast_expr_depth r.got ≡ ast_expr_depth e = same_depth r.got e r.alike in
+    let low : ast_expr_depth e ≤ 32 = expr_within 32 e h in
     record { got = r.got; takes = record { front = a.front; back = a.back; cut = a.cut; is = (omega arith, a.is); rest = a.rest }; alike = r.alike }
 
 more_values_reads : (es : AstExprsTree) (toks : List Tok) (ps : List Piece) → are_exprs 32 es ≡ true → says_of toks ≡ lexemes_in (more_layout es ++ ps) → Reads more_values_form exprs_at_start es toks (lexemes_in ps)

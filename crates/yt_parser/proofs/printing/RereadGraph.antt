@@ -10,11 +10,12 @@ use Rattle.yt_graph.specs.declared.ast.Source.TheVariants.{Input, Out}
 use Rattle.yt_graph.specs.declared.ast.VarDecl.{VarDecl}
 use Rattle.yt_graph.specs.declared.ast.OutDecl.{OutDecl}
 use Rattle.yt_graph.specs.AstPicture.{AstBlockTree, PortDeclTree, ItemTree, input, output, resource, process}
+use Rattle.yt_graph.specs.AstWellFormed.{ast_block_depth}
 use Rattle.yt_parser.specs.declared.sign.Keyword.TheVariants as keys
 use Rattle.yt_parser.specs.declared.sign.Mark.TheVariants.{RightBrace, LeftParen, RightParen, Comma, Dot, Assign, Minus}
 use Rattle.yt_parser.specs.Lexemes.{word, key, mark, digits, Tok}
 use Rattle.yt_parser.specs.Forms.{Form, ◌▹◌, symbol, named, each, listed}
-use Rattle.yt_parser.specs.Grammar.{stmts_depth, body_form, path_form, source_form, every_form, out_form, start_form, var_form, port_form, inside_form, item_form}
+use Rattle.yt_parser.specs.Grammar.{body_form, path_form, source_form, every_form, out_form, start_form, var_form, port_form, inside_form, item_form}
 use Rattle.yt_parser.specs.SamePlaces.{word_at_start, num_at_start, path_at_start, source_at_start, var_at_start, out_at_start, stmts_at_start, port_at_start, item_at_start, without_places}
 use Rattle.yt_parser.specs.Writable.{are_stmts, is_out, is_var, is_param, is_port, is_item, is_writable}
 use Rattle.yt_parser.specs.CanonicalText.{Piece, say, space, feed, indent, braced, stmts_layout, path_layout, source_layout, next_param_layout, params_layout, every_layout, out_layout, start_layout, var_layout, port_layout, inside_layout, item_layout, layout_of}
@@ -150,8 +151,8 @@ body_reads b toks ps h k =
     let d = stmts_reads 7 2 b c.back (indent 1 ∷ say (mark RightBrace) ∷ ps) h c.rest in
     let f = take_says (mark RightBrace) d.takes.back (lexemes_in ps) d.takes.rest in
     let block = then_takes c (then_takes d.takes f) in
-    let same : stmts_depth d.got ≡ stmts_depth b = same_blocks d.got b d.alike in
-    let low : stmts_depth b ≤ 7 = stmts_within 7 b h in
+    let same : ast_block_depth d.got ≡ ast_block_depth b = same_blocks d.got b d.alike in
+    let low : ast_block_depth b ≤ 7 = stmts_within 7 b h in
     record { got = d.got; takes = record { front = block.front; back = block.back; cut = block.cut; is = (omega (arith, same, low), block.is); rest = block.rest }; alike = d.alike }
 
 -- ports

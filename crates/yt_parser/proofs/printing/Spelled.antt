@@ -11,11 +11,12 @@ use Rattle.yt_graph.specs.declared.ast.Source.TheVariants.{Input, Out}
 use Rattle.yt_graph.specs.declared.ast.VarDecl.{VarDecl}
 use Rattle.yt_graph.specs.declared.ast.OutDecl.{OutDecl}
 use Rattle.yt_graph.specs.AstPicture.{AstExprTree, number, name, minus, negation, two_sides, paren, call_of, AstExprsTree, no_values, more_values, AstStmtTree, let_local, assign, send_on, when_only, when_else, turns, AstBlockTree, no_stmts, more_stmts, PortDeclTree, ItemTree, input, output, resource, process}
+use Rattle.yt_graph.specs.AstWellFormed.{ast_expr_depth, ast_exprs_depth, ast_stmt_depth, ast_block_depth}
 use Rattle.yt_parser.specs.declared.sign.Mark.TheVariants.{Comma}
-use Rattle.yt_parser.specs.Lexemes.{Lexeme, digits, Tok, IsName, IsLexeme, AreTokens}
+use Rattle.yt_parser.specs.Lexemes.{Lexeme, digits, Tok, IsLexeme, AreTokens}
 use Rattle.yt_parser.specs.Forms.{Form, ◌▹◌, says, symbol, named, counted, each, listed}
-use Rattle.yt_parser.specs.Grammar.{rank_of, left_rank, right_rank, expr_form, args_form, more_form, expr_depth, exprs_depth, value_form, more_values_form, values_form, stmt_form, stmts_form, stmt_depth, stmts_depth, body_form, path_form, source_form, every_form, out_form, start_form, var_form, port_form, inside_form, item_form, Spells}
-use Rattle.yt_lexer.specs.First.{is_name}
+use Rattle.yt_parser.specs.Grammar.{rank_of, left_rank, right_rank, expr_form, args_form, more_form, value_form, more_values_form, values_form, stmt_form, stmts_form, body_form, path_form, source_form, every_form, out_form, start_form, var_form, port_form, inside_form, item_form, Spells}
+use Rattle.yt_graph.specs.Names.{is_name}
 use Rattle.yt_parser.specs.Writable.{is_count, is_start, is_expr, are_args, are_exprs, is_stmt, are_stmts, is_path, is_source, is_every, is_out, is_var, is_param, is_port, is_inside, is_item, is_writable}
 
 -- a form behind another, taken apart
@@ -55,15 +56,6 @@ le_true m n h = grind (arith, nat_tests)
 lt_true : (m n : ℕ) → m < n → nat_lt m n ≡ true
 lt_true m n h = grind (arith, nat_tests)
 
-pub is_name_true : (w : List ℕ) → IsName w → is_name w ≡ true
-is_name_true [] h = let begins = h.begins in absurd (cc)
-is_name_true (b ∷ bs) h =
-    let short = h.short in
-    let begins = h.begins in
-    let goes_on = h.goes_on in
-    let free = h.free in
-    grind (arith, nat_tests)
-
 pub is_count_true : (n : ℤ) → IsLexeme (digits n) → is_count n ≡ true
 is_count_true (pos n) h = lt_true n (2 ^ 63) h
 is_count_true (negsuc n) h = absurd h
@@ -72,7 +64,7 @@ is_count_true (negsuc n) h = absurd h
 name_spelled : (w : Word) (ts : List Tok) → AreTokens ts → named w ts → is_name w.text ≡ true
 name_spelled w ts ok h =
     let one = subst AreTokens h ok in
-    is_name_true w.text one.0
+    one.0
 
 count_spelled : (n : Num) (ts : List Tok) → AreTokens ts → counted n ts → is_count n.value ≡ true
 count_spelled n ts ok h =
@@ -86,7 +78,7 @@ says_ok l ts ok h =
 
 -- expressions
 mutual
-  expr_spelled : (room : ℕ) (e : AstExprTree) (ts : List Tok) → expr_depth e ≤ room → AreTokens ts → expr_form e ts → is_expr room e ≡ true
+  expr_spelled : (room : ℕ) (e : AstExprTree) (ts : List Tok) → ast_expr_depth e ≤ room → AreTokens ts → expr_form e ts → is_expr room e ≡ true
   expr_spelled room (number n) ts d ok h = and_true (nat_lt 0 room) (is_count n) (lt_true 0 room (omega arith)) (is_count_true n (says_ok (digits n) ts ok h))
   expr_spelled room (name w) ts d ok h = and_true (nat_lt 0 room) (is_name w.text) (lt_true 0 room (omega arith)) (name_spelled w ts ok h)
   expr_spelled room (minus e) ts d ok h =
@@ -113,13 +105,13 @@ mutual
       and_true (nat_lt 0 room) (is_name w.text && are_args (room - 1) args) (lt_true 0 room (omega arith))
       (and_true (is_name w.text) (are_args (room - 1) args) (name_spelled w a.front a.front_ok a.front_is) (args_spelled (room - 1) args b.0 (omega arith) b.1 b.2))
 
-  args_spelled : (room : ℕ) (es : AstExprsTree) (ts : List Tok) → exprs_depth es ≤ room → AreTokens ts → args_form es ts → are_args room es ≡ true
+  args_spelled : (room : ℕ) (es : AstExprsTree) (ts : List Tok) → ast_exprs_depth es ≤ room → AreTokens ts → args_form es ts → are_args room es ≡ true
   args_spelled room no_values ts d ok h = absurd h
   args_spelled room (more_values e rest) ts d ok h =
       let a = parts_of _ _ ts ok h in
       and_true (is_expr room e) (are_exprs room rest) (expr_spelled room e a.front (omega arith) a.front_ok a.front_is) (more_spelled room rest a.back (omega arith) a.back_ok a.back_is)
 
-  more_spelled : (room : ℕ) (es : AstExprsTree) (ts : List Tok) → exprs_depth es ≤ room → AreTokens ts → more_form es ts → are_exprs room es ≡ true
+  more_spelled : (room : ℕ) (es : AstExprsTree) (ts : List Tok) → ast_exprs_depth es ≤ room → AreTokens ts → more_form es ts → are_exprs room es ≡ true
   more_spelled room no_values ts d ok h = refl
   more_spelled room (more_values e rest) ts d ok h =
       let c = parts_of _ _ ts ok h in
@@ -144,7 +136,7 @@ values_spelled (more_values e rest) ts ok h =
 
 -- statements
 mutual
-  stmt_spelled : (room : ℕ) (s : AstStmtTree) (ts : List Tok) → stmt_depth s ≤ room → AreTokens ts → stmt_form s ts → is_stmt room s ≡ true
+  stmt_spelled : (room : ℕ) (s : AstStmtTree) (ts : List Tok) → ast_stmt_depth s ≤ room → AreTokens ts → stmt_form s ts → is_stmt room s ≡ true
   stmt_spelled room (let_local w e) ts d ok h =
       let a = parts_of _ _ ts ok h in
       let b = parts_of _ _ a.back a.back_ok a.back_is in
@@ -185,7 +177,7 @@ mutual
       (and_true (is_count most.value) (nat_lt 0 room && are_stmts (room - 1) body) (count_spelled most n.front n.front_ok n.front_is)
       (and_true (nat_lt 0 room) (are_stmts (room - 1) body) (lt_true 0 room (omega arith)) (stmts_spelled (room - 1) body c.0 (omega arith) c.1 c.2)))
 
-  stmts_spelled : (room : ℕ) (b : AstBlockTree) (ts : List Tok) → stmts_depth b ≤ room → AreTokens ts → stmts_form b ts → are_stmts room b ≡ true
+  stmts_spelled : (room : ℕ) (b : AstBlockTree) (ts : List Tok) → ast_block_depth b ≤ room → AreTokens ts → stmts_form b ts → are_stmts room b ≡ true
   stmts_spelled room no_stmts ts d ok h = refl
   stmts_spelled room (more_stmts s rest) ts d ok h =
       let a = parts_of _ _ ts ok h in

@@ -1,8 +1,8 @@
 -- A tree that can be written is spelled by some tokens.
-use Rattle.std.proofs.Common.{ℕ, ◌-◌, ◌≡◌, ◌≤◌, List, [], ◌∷◌, ◌++◌, length, Bool, true, false, ◌&&◌, not, ℤ, pos, negsuc, suc, Option, None, Some, refl, inl, inr, arith}
+use Rattle.std.proofs.Common.{ℕ, ◌-◌, ◌≡◌, ◌≤◌, List, [], ◌∷◌, ◌++◌, Bool, true, ℤ, pos, negsuc, suc, Option, None, Some, refl, inl, inr, arith}
 use Rattle.std.proofs.lemmas.Bool.Decides.{nat_tests}
-use Rattle.std.specs.Prelude.{nat_le, ◌==◌, IsTrue}
-use Rattle.std.specs.List.{list_all, prefix_len}
+use Rattle.std.specs.Prelude.{nat_le}
+use Rattle.std.specs.List.{list_all}
 use Rattle.yt_graph.specs.declared.expr.Op2.{Op2}
 use Rattle.yt_graph.specs.declared.expr.Op2.TheVariants.{Or, And, Lt, Le, Gt, Ge, Eq, Ne, Add, Sub, Mul, Div, Rem}
 use Rattle.yt_graph.specs.declared.ast.Word.{Word}
@@ -13,15 +13,16 @@ use Rattle.yt_graph.specs.declared.ast.Source.TheVariants.{Input, Out}
 use Rattle.yt_graph.specs.declared.ast.VarDecl.{VarDecl}
 use Rattle.yt_graph.specs.declared.ast.OutDecl.{OutDecl}
 use Rattle.yt_graph.specs.AstPicture.{AstExprTree, number, name, minus, negation, two_sides, paren, call_of, AstExprsTree, no_values, more_values, AstStmtTree, let_local, assign, send_on, when_only, when_else, turns, AstBlockTree, no_stmts, more_stmts, PortDeclTree, ItemTree, input, output, resource, process}
+use Rattle.yt_graph.specs.AstWellFormed.{ast_block_depth}
 use Rattle.yt_parser.specs.declared.sign.Keyword.{Keyword}
 use Rattle.yt_parser.specs.declared.sign.Keyword.TheVariants as keys
 use Rattle.yt_parser.specs.declared.sign.Mark.{Mark}
 use Rattle.yt_parser.specs.declared.sign.Mark.TheVariants.{LeftBrace, RightBrace, LeftParen, RightParen, Comma, Dot, Assign, Minus}
-use Rattle.yt_parser.specs.Lexemes.{Lexeme, word, key, mark, digits, Tok, IsName, IsLexeme, AreTokens}
+use Rattle.yt_parser.specs.Lexemes.{Lexeme, word, key, mark, digits, Tok, IsLexeme, AreTokens}
 use Rattle.yt_parser.specs.Forms.{Form, ◌▹◌, nothing, says, keyword, symbol, named, counted, each, listed, parens, braces}
-use Rattle.yt_parser.specs.Grammar.{op_lexeme, rank_of, left_rank, right_rank, within, expr_form, args_form, more_form, value_form, more_values_form, values_form, stmt_form, stmts_form, stmts_depth, body_form, path_form, source_form, every_form, out_form, start_form, var_form, port_form, inside_form, item_form}
+use Rattle.yt_parser.specs.Grammar.{op_lexeme, rank_of, left_rank, right_rank, within, expr_form, args_form, more_form, value_form, more_values_form, values_form, stmt_form, stmts_form, body_form, path_form, source_form, every_form, out_form, start_form, var_form, port_form, inside_form, item_form}
 use Rattle.yt_parser.specs.SamePlaces.{start, IsWritten}
-use Rattle.yt_lexer.specs.First.{is_letter, is_name, is_word_byte, is_reserved}
+use Rattle.yt_graph.specs.Names.{is_name}
 use Rattle.yt_parser.specs.Writable.{is_count, is_start, is_expr, are_args, are_exprs, is_stmt, are_stmts, is_path, is_source, is_every, is_out, is_var, is_param, is_port, is_inside, is_item, is_writable}
 use Rattle.yt_parser.proofs.printing.Texts.{both}
 use Rattle.yt_parser.proofs.printing.Depths.{expr_within, stmts_within}
@@ -51,32 +52,8 @@ mark_some : (m : Mark) → Some_of (symbol m)
 mark_some m = say_some (mark m) tt
 
 -- what the tests mean
-not_false : (b : Bool) → not b ≡ true → b ≡ false
-not_false true h = absurd (cc)
-not_false false h = refl
-
-same_from : (m n : ℕ) → (m == n) ≡ true → m ≡ n
-same_from m n h = grind (arith, nat_tests)
-
-is_true : (b : Bool) → b ≡ true → IsTrue b
-is_true b h = grind (arith, nat_tests)
-
 le_from : (m n : ℕ) → nat_le m n ≡ true → m ≤ n
 le_from m n h = grind (arith, nat_tests)
-
-pub name_from : (w : List ℕ) → is_name w ≡ true → IsName w
-name_from [] h = absurd (cc)
-name_from (b ∷ bs) h =
-    let w = b ∷ bs in
-    let p = both (is_letter b) ((prefix_len is_word_byte w == length w) && (nat_le (length w) 32 && not (is_reserved w))) h in
-    let q = both (prefix_len is_word_byte w == length w) (nat_le (length w) 32 && not (is_reserved w)) p.1 in
-    let r = both (nat_le (length w) 32) (not (is_reserved w)) q.1 in
-    record {
-      short = le_from (length w) 32 r.0;
-      begins = is_true (is_letter b) p.0;
-      goes_on = same_from (prefix_len is_word_byte w) (length w) q.0;
-      free = not_false (is_reserved w) r.1;
-    }
 
 pub count_from : (n : ℤ) → is_count n ≡ true → IsLexeme (digits n)
 count_from (pos n) h = grind (arith, nat_tests)
@@ -98,7 +75,7 @@ op_ok Div = tt
 op_ok Rem = tt
 
 name_some : (w : Word) → is_name w.text ≡ true → Some_of (named w)
-name_some w h = record { toks = (record { says = word w.text; place = w.place }) ∷ []; ok = (name_from w.text h, tt); is = refl }
+name_some w h = record { toks = (record { says = word w.text; place = w.place }) ∷ []; ok = (h, tt); is = refl }
 
 count_some : (n : Num) → is_count n.value ≡ true → Some_of (counted n)
 count_some n h = record { toks = (record { says = digits n.value; place = n.place }) ∷ []; ok = (count_from n.value h, tt); is = refl }
@@ -249,7 +226,7 @@ var_some v h =
 body_some : (b : AstBlockTree) → are_stmts 7 b ≡ true → Some_of (body_form b)
 body_some b h =
     let a = braces_some (stmts_some 7 b h) in
-    let depth : stmts_depth b ≤ 7 = stmts_within 7 b h in
+    let depth : ast_block_depth b ≤ 7 = stmts_within 7 b h in
     record { toks = a.toks; ok = a.ok; is = (omega arith, a.is) }
 
 port_some : (p : PortDeclTree) → is_port p ≡ true → Some_of (port_form p)

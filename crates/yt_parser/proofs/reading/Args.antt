@@ -1,10 +1,11 @@
 -- The arguments of a call, as a list and as a tree.
 use Rattle.std.proofs.Common.{ℕ, ◌≤◌, List, [], ◌∷◌, ◌++◌, refl, sym, ap, ◌∙◌, append_assoc, arith}
 use Rattle.yt_graph.specs.AstPicture.{AstExprTree, number, name, minus, negation, two_sides, paren, call_of, AstExprsTree, no_values, more_values}
+use Rattle.yt_graph.specs.AstWellFormed.{ast_exprs_depth}
 use Rattle.yt_parser.specs.declared.sign.Mark.TheVariants.{Comma}
 use Rattle.yt_parser.specs.Lexemes.{Tok}
 use Rattle.yt_parser.specs.Forms.{Form, ◌▹◌, symbol, each, parens}
-use Rattle.yt_parser.specs.Grammar.{args_form, more_form, rank_of, exprs_depth}
+use Rattle.yt_parser.specs.Grammar.{args_form, more_form, rank_of}
 use Rattle.yt_parser.specs.Reading.{Reader, in_parens, one_or_more, at_mark, exprs_of, args_reader}
 use Rattle.yt_parser.proofs.reading.Lawful.{Lawful}
 use Rattle.yt_parser.proofs.reading.Follows.{NotContinued}
@@ -27,41 +28,41 @@ rank_most (paren e) = omega arith
 rank_most (call_of w es) = omega arith
 
 -- expressions behind commas, as a list and as a tree
-more_there : (room : ℕ) (xs : List AstExprTree) (w : List Tok) → each (λ y. symbol Comma ▹ Fits room 7 y) xs w → (exprs_depth (exprs_of xs) ≤ room) × more_form (exprs_of xs) w
+more_there : (room : ℕ) (xs : List AstExprTree) (w : List Tok) → each (λ y. symbol Comma ▹ Fits room 7 y) xs w → (ast_exprs_depth (exprs_of xs) ≤ room) × more_form (exprs_of xs) w
 more_there room [] w h = (omega arith, h)
 more_there room (x ∷ xs) w (front, c, splits, (a, b, splits', sign, fits), behind) =
     let rest = more_there room xs c behind in
     (omega (arith, fits.depth, rest.0), (a, b ++ c, splits ∙ ap (λ v. v ++ c) splits' ∙ append_assoc a b c, sign, (b, c, refl, fits.spelled, rest.1)))
 
 -- the same from the tree
-more_back : (room : ℕ) (es : AstExprsTree) (w : List Tok) → exprs_depth es ≤ room → more_form es w → Image exprs_of (each (λ y. symbol Comma ▹ Fits room 7 y)) es w
+more_back : (room : ℕ) (es : AstExprsTree) (w : List Tok) → ast_exprs_depth es ≤ room → more_form es w → Image exprs_of (each (λ y. symbol Comma ▹ Fits room 7 y)) es w
 more_back room no_values w low h = ([], refl, h)
 more_back room (more_values e es) w low (a, back, splits, sign, (b, c, splits', spelled, behind)) =
     let rest = more_back room es c (omega (arith, low)) behind in
     (e ∷ rest.0, ap (more_values e) rest.1, (a ++ b, c, splits ∙ ap (λ v. a ++ v) splits' ∙ sym (append_assoc a b c), (a, b, refl, sign, record { bound = rank_most e; depth = omega (arith, low); spelled = spelled }), rest.2))
 
 -- arguments, one at least, as a list and as a tree
-args_there : (room : ℕ) (xs : List AstExprTree) (w : List Tok) → OneOrMore (Fits room 7) xs w → (exprs_depth (exprs_of xs) ≤ room) × args_form (exprs_of xs) w
+args_there : (room : ℕ) (xs : List AstExprTree) (w : List Tok) → OneOrMore (Fits room 7) xs w → (ast_exprs_depth (exprs_of xs) ≤ room) × args_form (exprs_of xs) w
 args_there room [] w h = absurd h
 args_there room (x ∷ xs) w (a, b, splits, fits, behind) =
     let rest = more_there room xs b behind in
     (omega (arith, fits.depth, rest.0), (a, b, splits, fits.spelled, rest.1))
 
 -- the same from the tree
-args_back : (room : ℕ) (es : AstExprsTree) (w : List Tok) → exprs_depth es ≤ room → args_form es w → Image exprs_of (OneOrMore (Fits room 7)) es w
+args_back : (room : ℕ) (es : AstExprsTree) (w : List Tok) → ast_exprs_depth es ≤ room → args_form es w → Image exprs_of (OneOrMore (Fits room 7)) es w
 args_back room no_values w low h = absurd h
 args_back room (more_values e es) w low (a, b, splits, spelled, behind) =
     let rest = more_back room es b (omega (arith, low)) behind in
     (e ∷ rest.0, ap (more_values e) rest.1, (a, b, splits, record { bound = rank_most e; depth = omega (arith, low); spelled = spelled }, rest.2))
 
 -- arguments are as deep as an expression
-pub args_depth : (es : AstExprsTree) (w : List Tok) → args_form es w → 1 ≤ exprs_depth es
+pub args_depth : (es : AstExprsTree) (w : List Tok) → args_form es w → 1 ≤ ast_exprs_depth es
 args_depth no_values w h = absurd h
 args_depth (more_values e es) w h = omega (arith, depth_one e)
 
 -- arguments in parentheses, within the room
 abbrev pub ArgsFit : ℕ → AstExprsTree → Form
-ArgsFit room es w = (exprs_depth es ≤ room) × parens (args_form es) w
+ArgsFit room es w = (ast_exprs_depth es ≤ room) × parens (args_form es) w
 
 -- they are read as the parts of the call are
 pub args_lawful : (inner : ℕ → Reader AstExprTree) (room : ℕ) → Lawful (inner 7) (Fits room 7) (NotContinued 7) → Lawful (args_reader inner) (ArgsFit room) Any

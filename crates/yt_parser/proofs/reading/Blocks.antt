@@ -2,11 +2,12 @@
 use Rattle.std.proofs.Common.{◌≡◌, ℕ, zero, suc, ◌≤◌, true, ◌&&◌, ◌||◌, nat_lt, List, [], ◌∷◌, ◌++◌, refl, ap, arith}
 use Rattle.std.proofs.Math.Bool.{and-false}
 use Rattle.yt_graph.specs.AstPicture.{AstStmtTree, AstBlockTree, no_stmts, more_stmts}
+use Rattle.yt_graph.specs.AstWellFormed.{ast_block_depth}
 use Rattle.yt_parser.specs.declared.sign.Keyword.TheVariants as keys
 use Rattle.yt_parser.specs.declared.sign.Mark.TheVariants.{LeftBrace, RightBrace}
 use Rattle.yt_parser.specs.Lexemes.{Tok}
 use Rattle.yt_parser.specs.Forms.{Form, ◌▹◌, symbol, each, braces}
-use Rattle.yt_parser.specs.Grammar.{stmts_form, stmts_depth, body_form}
+use Rattle.yt_parser.specs.Grammar.{stmts_form, body_form}
 use Rattle.yt_parser.specs.Reading.{many, at_key, at_word, in_braces, at_stmt, stmt_reader, block_reader, block_of}
 use Rattle.yt_parser.proofs.reading.Lawful.{Lawful}
 use Rattle.yt_parser.proofs.reading.Heads.{LooksAhead, and_ahead, or_ahead, second_as, first_as}
@@ -32,9 +33,9 @@ stmts_back no_stmts = refl
 stmts_back (more_stmts s rest) = ap (more_stmts s) (stmts_back rest)
 
 -- statements as a list and as a block: how deep they are, and how they are spelled
-depth_there : (n : ℕ) (ss : List AstStmtTree) (w : List Tok) → each (StmtIn n) ss w → stmts_depth (block_of ss) ≤ n
+depth_there : (n : ℕ) (ss : List AstStmtTree) (w : List Tok) → each (StmtIn n) ss w → ast_block_depth (block_of ss) ≤ n
 depth_there n [] w c = omega arith
-depth_there n (s ∷ ss) w c = let more : stmts_depth (block_of ss) ≤ n = depth_there n ss c.1 c.4 in omega (arith, c.3.0)
+depth_there n (s ∷ ss) w c = let more : ast_block_depth (block_of ss) ≤ n = depth_there n ss c.1 c.4 in omega (arith, c.3.0)
 
 -- their form, from the list
 form_there : (n : ℕ) (ss : List AstStmtTree) (w : List Tok) → each (StmtIn n) ss w → stmts_form (block_of ss) w
@@ -42,13 +43,13 @@ form_there n [] w c = c
 form_there n (s ∷ ss) w c = (c.0, c.1, c.2, c.3.1, form_there n ss c.1 c.4)
 
 -- their form, from the block
-form_back : (n : ℕ) (b : AstBlockTree) → stmts_depth b ≤ n → (w : List Tok) → stmts_form b w → each (StmtIn n) (stmts_of b) w
+form_back : (n : ℕ) (b : AstBlockTree) → ast_block_depth b ≤ n → (w : List Tok) → stmts_form b w → each (StmtIn n) (stmts_of b) w
 form_back n no_stmts h w c = c
 form_back n (more_stmts s rest) h w c = (c.0, c.1, c.2, (omega arith, c.3), form_back n rest (omega arith) c.1 c.4)
 
 -- a block in braces, from its list
 block_there : (n : ℕ) (ss : List AstStmtTree) (w : List Tok) → braces (each (StmtIn n) ss) w → BlockIn (suc n) (block_of ss) w
-block_there n ss w c = (let inside : stmts_depth (block_of ss) ≤ n = depth_there n ss c.4.0 c.4.3 in omega arith, braces_as (each (StmtIn n) ss) (stmts_form (block_of ss)) (form_there n ss) w c)
+block_there n ss w c = (let inside : ast_block_depth (block_of ss) ≤ n = depth_there n ss c.4.0 c.4.3 in omega arith, braces_as (each (StmtIn n) ss) (stmts_form (block_of ss)) (form_there n ss) w c)
 
 -- and back
 block_back : (n : ℕ) (b : AstBlockTree) (w : List Tok) → BlockIn (suc n) b w → braces (each (StmtIn n) (stmts_of b)) w

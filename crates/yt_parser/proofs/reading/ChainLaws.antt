@@ -2,9 +2,10 @@
 use Rattle.std.proofs.Common.{◌≡◌, ℕ, zero, suc, ◌≤◌, ◌<◌, inl, inr, Bool, true, false, if◌then◌else◌, Option, None, Some, List, [], ◌∷◌, ◌++◌, refl, sym, ap, ◌∙◌, subst, arith, nat_le, leb-true, le-leb}
 use Rattle.yt_graph.specs.declared.expr.Op2.{Op2}
 use Rattle.yt_graph.specs.AstPicture.{AstExprTree, number, name, minus, negation, two_sides, paren, call_of}
+use Rattle.yt_graph.specs.AstWellFormed.{ast_expr_depth}
 use Rattle.yt_parser.specs.Lexemes.{Tok}
 use Rattle.yt_parser.specs.Forms.{Form}
-use Rattle.yt_parser.specs.Grammar.{op_lexeme, op_rank, right_rank, expr_depth}
+use Rattle.yt_parser.specs.Grammar.{op_lexeme, op_rank, right_rank}
 use Rattle.yt_parser.specs.Reading.{got, stuck, Reader, and_then, op_at, behind, link, chain}
 use Rattle.yt_parser.proofs.reading.Lawful.{SameHead, ReadsFront, StopsBehind, Lawful}
 use Rattle.yt_parser.proofs.reading.Follows.{NotContinued}
@@ -42,7 +43,7 @@ nothing_stops p form y s h rest e =
     absurd cc
 
 -- every expression has a depth
-pub depth_one : (e : AstExprTree) → 1 ≤ expr_depth e
+pub depth_one : (e : AstExprTree) → 1 ≤ ast_expr_depth e
 depth_one (number n) = omega arith
 depth_one (name w) = omega arith
 depth_one (minus e) = omega arith
@@ -68,11 +69,11 @@ module _ (inner : ℕ → Reader AstExprTree) (room rank n : ℕ) (left : AstExp
   step_none s e = ap (λ o. link inner room left (chain inner room rank n) o s) e
 
   -- without room for one
-  step_deep : (s : List Tok) (op : Op2) → op_at rank s ≡ Some op → nat_le (expr_depth left) room ≡ false → chain inner room rank (suc n) left s ≡ got left s
+  step_deep : (s : List Tok) (op : Op2) → op_at rank s ≡ Some op → nat_le (ast_expr_depth left) room ≡ false → chain inner room rank (suc n) left s ≡ got left s
   step_deep s op e deep = ap (λ o. link inner room left (chain inner room rank n) o s) e ∙ ap (λ b. if b then tail op (behind s) else got left s) deep
 
   -- with both
-  step_on : (s : List Tok) (op : Op2) → op_at rank s ≡ Some op → nat_le (expr_depth left) room ≡ true → chain inner room rank (suc n) left s ≡ tail op (behind s)
+  step_on : (s : List Tok) (op : Op2) → op_at rank s ≡ Some op → nat_le (ast_expr_depth left) room ≡ true → chain inner room rank (suc n) left s ≡ tail op (behind s)
   step_on s op e low = ap (λ o. link inner room left (chain inner room rank n) o s) e ∙ ap (λ b. if b then tail op (behind s) else got left s) low
 
   -- what is read behind an operator
@@ -80,7 +81,7 @@ module _ (inner : ℕ → Reader AstExprTree) (room rank n : ℕ) (left : AstExp
   Tail op = Then (Fits room (right_rank op)) (λ right t. Extends n rank room t (two_sides op left right))
 
   -- that is lawful, as the right side is, where further operators are
-  tail_lawful : InnerLaws inner room → ((other : AstExprTree) → Lawful (chain inner room rank n other) (λ t. Extends n rank room t other) (NotContinued rank)) → (op : Op2) → op_rank op ≡ rank → expr_depth left ≤ room → Lawful (tail op) (Tail op) (NotContinued rank)
+  tail_lawful : InnerLaws inner room → ((other : AstExprTree) → Lawful (chain inner room rank n other) (λ t. Extends n rank room t other) (NotContinued rank)) → (op : Op2) → op_rank op ≡ rank → ast_expr_depth left ≤ room → Lawful (tail op) (Tail op) (NotContinued rank)
   tail_lawful laws more op of_rank low = and_then_lawful (inner (right_rank op)) (λ right. chain inner room rank n (two_sides op left right)) (Fits room (right_rank op)) (λ right t. Extends n rank room t (two_sides op left right)) (NotContinued (right_rank op)) (NotContinued rank) (record {
     begins = laws (omega (arith, low, depth_one left)) (right_rank op) (omega (arith, op_right op, op_ranked op));
     goes_on = λ right a k. more (two_sides op left right);
@@ -92,15 +93,15 @@ module _ (inner : ℕ → Reader AstExprTree) (room rank n : ℕ) (left : AstExp
   none_read s e = record { alike = λ other same. step_none other (op_at_same rank s other same ∙ e) }
 
   -- nor where there is no room for one
-  deep_read : (s : List Tok) (op : Op2) → op_at rank s ≡ Some op → nat_le (expr_depth left) room ≡ false → ReadsNothing (chain inner room rank (suc n) left) left s
+  deep_read : (s : List Tok) (op : Op2) → op_at rank s ≡ Some op → nat_le (ast_expr_depth left) room ≡ false → ReadsNothing (chain inner room rank (suc n) left) left s
   deep_read s op e deep = record { alike = λ other same. step_deep other op (op_at_same rank s other same ∙ e) deep }
 
   -- an operator and what is read behind it
-  behind_sign : (op : Op2) (sign : Tok) (other : List Tok) → sign.says ≡ op_lexeme op → op_rank op ≡ rank → expr_depth left ≤ room → chain inner room rank (suc n) left (sign ∷ other) ≡ tail op other
-  behind_sign op sign other written of_rank low = step_on (sign ∷ other) op (op_at-sign rank sign other op written of_rank) (le-leb (expr_depth left) room low)
+  behind_sign : (op : Op2) (sign : Tok) (other : List Tok) → sign.says ≡ op_lexeme op → op_rank op ≡ rank → ast_expr_depth left ≤ room → chain inner room rank (suc n) left (sign ∷ other) ≡ tail op other
+  behind_sign op sign other written of_rank low = step_on (sign ∷ other) op (op_at-sign rank sign other op written of_rank) (le-leb (ast_expr_depth left) room low)
 
   -- what an operator and the tokens behind it are together
-  linked : (op : Op2) (sign : Tok) (t : AstExprTree) (w : List Tok) → sign.says ≡ op_lexeme op → op_rank op ≡ rank → expr_depth left ≤ room → Tail op t w → Extends (suc n) rank room t left (sign ∷ w)
+  linked : (op : Op2) (sign : Tok) (t : AstExprTree) (w : List Tok) → sign.says ≡ op_lexeme op → op_rank op ≡ rank → ast_expr_depth left ≤ room → Tail op t w → Extends (suc n) rank room t left (sign ∷ w)
   linked op sign t w written of_rank low (right, (a, b, splits, fits, extends)) = inr (
     op,
     right,
@@ -118,7 +119,7 @@ module _ (inner : ℕ → Reader AstExprTree) (room rank n : ℕ) (left : AstExp
   )
 
   -- reading goes on behind an operator
-  on_sound : (s : List Tok) (op : Op2) (t : AstExprTree) (rest : List Tok) → IsOperator rank op s → expr_depth left ≤ room → ReadsFront (tail op) (Tail op) (behind s) t rest → ReadsFront (chain inner room rank (suc n) left) (λ x. Extends (suc n) rank room x left) s t rest
+  on_sound : (s : List Tok) (op : Op2) (t : AstExprTree) (rest : List Tok) → IsOperator rank op s → ast_expr_depth left ≤ room → ReadsFront (tail op) (Tail op) (behind s) t rest → ReadsFront (chain inner room rank (suc n) left) (λ x. Extends (suc n) rank room x left) s t rest
   on_sound s op t rest o low a = record {
     front = o.sign ∷ a.front;
     splits = o.splits ∙ ap (λ v. o.sign ∷ v) a.splits;
@@ -127,7 +128,7 @@ module _ (inner : ℕ → Reader AstExprTree) (room rank n : ℕ) (left : AstExp
   }
 
   -- reading is stuck behind an operator
-  on_stops : (s : List Tok) (op : Op2) (rest : List Tok) → IsOperator rank op s → expr_depth left ≤ room → StopsBehind (tail op) (Tail op) (behind s) rest → StopsBehind (chain inner room rank (suc n) left) (λ x. Extends (suc n) rank room x left) s rest
+  on_stops : (s : List Tok) (op : Op2) (rest : List Tok) → IsOperator rank op s → ast_expr_depth left ≤ room → StopsBehind (tail op) (Tail op) (behind s) rest → StopsBehind (chain inner room rank (suc n) left) (λ x. Extends (suc n) rank room x left) s rest
   on_stops s op rest o low a = record {
     front = o.sign ∷ a.front;
     splits = o.splits ∙ ap (λ v. o.sign ∷ v) a.splits;
@@ -140,21 +141,21 @@ module _ (inner : ℕ → Reader AstExprTree) (room rank n : ℕ) (left : AstExp
 
   module _ (laws : InnerLaws inner room) (more : (other : AstExprTree) → Lawful (chain inner room rank n other) (λ t. Extends n rank room t other) (NotContinued rank)) where
     -- what was read, by the operator that comes and by the room
-    sound_cases : (s : List Tok) (t : AstExprTree) (rest : List Tok) → (o : Option Op2) → op_at rank s ≡ o → (b : Bool) → nat_le (expr_depth left) room ≡ b → chain inner room rank (suc n) left s ≡ got t rest → ReadsFront (chain inner room rank (suc n) left) (λ x. Extends (suc n) rank room x left) s t rest
+    sound_cases : (s : List Tok) (t : AstExprTree) (rest : List Tok) → (o : Option Op2) → op_at rank s ≡ o → (b : Bool) → nat_le (ast_expr_depth left) room ≡ b → chain inner room rank (suc n) left s ≡ got t rest → ReadsFront (chain inner room rank (suc n) left) (λ x. Extends (suc n) rank room x left) s t rest
     sound_cases s t rest None e b d is = nothing_sound (chain inner room rank (suc n) left) (λ x. Extends (suc n) rank room x left) left s (none_read s e) (inl (refl, refl)) t rest is
     sound_cases s t rest (Some op) e false d is = nothing_sound (chain inner room rank (suc n) left) (λ x. Extends (suc n) rank room x left) left s (deep_read s op e d) (inl (refl, refl)) t rest is
     sound_cases s t rest (Some op) e true d is =
         let o = op_at_tells rank s op e in
-        let low = leb-true (expr_depth left) room d in
+        let low = leb-true (ast_expr_depth left) room d in
         on_sound s op t rest o low ((tail_lawful laws more op o.of_rank low).sound (behind s) t rest (sym (step_on s op e d) ∙ is))
 
     -- where reading is stuck, by the same
-    stops_cases : (s rest : List Tok) → (o : Option Op2) → op_at rank s ≡ o → (b : Bool) → nat_le (expr_depth left) room ≡ b → chain inner room rank (suc n) left s ≡ stuck rest → StopsBehind (chain inner room rank (suc n) left) (λ x. Extends (suc n) rank room x left) s rest
+    stops_cases : (s rest : List Tok) → (o : Option Op2) → op_at rank s ≡ o → (b : Bool) → nat_le (ast_expr_depth left) room ≡ b → chain inner room rank (suc n) left s ≡ stuck rest → StopsBehind (chain inner room rank (suc n) left) (λ x. Extends (suc n) rank room x left) s rest
     stops_cases s rest None e b d is = nothing_stops (chain inner room rank (suc n) left) (λ x. Extends (suc n) rank room x left) left s (none_read s e) rest is
     stops_cases s rest (Some op) e false d is = nothing_stops (chain inner room rank (suc n) left) (λ x. Extends (suc n) rank room x left) left s (deep_read s op e d) rest is
     stops_cases s rest (Some op) e true d is =
         let o = op_at_tells rank s op e in
-        let low = leb-true (expr_depth left) room d in
+        let low = leb-true (ast_expr_depth left) room d in
         on_stops s op rest o low ((tail_lawful laws more op o.of_rank low).stops (behind s) rest (sym (step_on s op e d) ∙ is))
 
     -- what extends is read
@@ -167,8 +168,8 @@ module _ (inner : ℕ → Reader AstExprTree) (room rank n : ℕ) (left : AstExp
     -- so many operators and one more are read as the left side is extended by them
     next_lawful : Lawful (chain inner room rank (suc n) left) (λ t. Extends (suc n) rank room t left) (NotContinued rank)
     next_lawful = record {
-      sound = λ s t rest is. sound_cases s t rest (op_at rank s) refl (nat_le (expr_depth left) room) refl is;
-      stops = λ s rest is. stops_cases s rest (op_at rank s) refl (nat_le (expr_depth left) room) refl is;
+      sound = λ s t rest is. sound_cases s t rest (op_at rank s) refl (nat_le (ast_expr_depth left) room) refl is;
+      stops = λ s rest is. stops_cases s rest (op_at rank s) refl (nat_le (ast_expr_depth left) room) refl is;
       complete = complete_cases;
     }
 

@@ -4,22 +4,23 @@ use Rattle.std.specs.Prelude.{nat_eq}
 use Rattle.std.proofs.lemmas.Bool.Decides.{eqb_tells}
 use Rattle.yt_graph.specs.declared.expr.Op2.{Op2}
 use Rattle.yt_graph.specs.AstPicture.{AstExprTree, number, name, minus, negation, two_sides, paren, call_of}
+use Rattle.yt_graph.specs.AstWellFormed.{ast_expr_depth}
 use Rattle.yt_parser.specs.Lexemes.{Tok}
 use Rattle.yt_parser.specs.Forms.{Form}
-use Rattle.yt_parser.specs.Grammar.{op_lexeme, op_rank, left_rank, right_rank, rank_of, expr_form, expr_depth}
+use Rattle.yt_parser.specs.Grammar.{op_lexeme, op_rank, left_rank, right_rank, rank_of, expr_form}
 use Rattle.yt_parser.specs.Reading.{turns_at}
 use Rattle.yt_parser.proofs.reading.Ranks.{not_eqb, op_left}
 
 -- the tokens spell the expression, which binds no more loosely than a rank and is no deeper than there is room
 pub record Fits (room rank : ℕ) (e : AstExprTree) (w : List Tok) : Type 0 where
   pub bound : rank_of e ≤ rank
-  pub depth : expr_depth e ≤ room
+  pub depth : ast_expr_depth e ≤ room
   pub spelled : expr_form e w
 
 -- the tokens are an operator of the rank and its right side, which make a greater part of `left`, and then what extends that part
 pub record Link (more : AstExprTree → Form) (rank room : ℕ) (left : AstExprTree) (op : Op2) (right : AstExprTree) (w : List Tok) : Type 0 where
   pub ranked : op_rank op ≡ rank
-  pub low : expr_depth left ≤ room
+  pub low : ast_expr_depth left ≤ room
   pub sign : Tok
   pub written : sign.says ≡ op_lexeme op
   pub side : List Tok
@@ -58,7 +59,7 @@ relinked more other rank room left op right w v link rest splits extends = recor
 }
 
 -- an operator behind a left side, and its right side
-joined : (room : ℕ) (op : Op2) (left right : AstExprTree) (sign : Tok) (w side : List Tok) → Fits (suc room) (left_rank op) left w → expr_depth left ≤ room → sign.says ≡ op_lexeme op → Fits room (right_rank op) right side → Fits (suc room) (op_rank op) (two_sides op left right) (w ++ sign ∷ side)
+joined : (room : ℕ) (op : Op2) (left right : AstExprTree) (sign : Tok) (w side : List Tok) → Fits (suc room) (left_rank op) left w → ast_expr_depth left ≤ room → sign.says ≡ op_lexeme op → Fits room (right_rank op) right side → Fits (suc room) (op_rank op) (two_sides op left right) (w ++ sign ∷ side)
 joined room op left right sign w side l low written r = record {
   bound = omega arith;
   depth = omega (arith, low, r.depth);
@@ -103,7 +104,7 @@ none_yet zero rank room t left w same empty = (same, empty)
 none_yet (suc n) rank room t left w same empty = inl (same, empty)
 
 -- an operator behind a left side that nothing has extended yet
-first_one : (n rank room : ℕ) (left : AstExprTree) (op : Op2) (t right : AstExprTree) (w : List Tok) (sign : Tok) (side : List Tok) → (t ≡ left) × (w ≡ []) → op_rank op ≡ rank → expr_depth t ≤ room → sign.says ≡ op_lexeme op → Fits room (right_rank op) right side → Extends (suc n) rank room (two_sides op t right) left (w ++ sign ∷ side)
+first_one : (n rank room : ℕ) (left : AstExprTree) (op : Op2) (t right : AstExprTree) (w : List Tok) (sign : Tok) (side : List Tok) → (t ≡ left) × (w ≡ []) → op_rank op ≡ rank → ast_expr_depth t ≤ room → sign.says ≡ op_lexeme op → Fits room (right_rank op) right side → Extends (suc n) rank room (two_sides op t right) left (w ++ sign ∷ side)
 first_one n rank room left op t right w sign side same ranked low written fits =
     inr (
       op,
@@ -122,7 +123,7 @@ first_one n rank room left op t right w sign side same ranked low written fits =
     )
 
 -- one operator more behind those that are there
-one_more : (n rank room : ℕ) (left : AstExprTree) (op : Op2) (t right : AstExprTree) (w : List Tok) (sign : Tok) (side : List Tok) → Extends n rank room t left w → op_rank op ≡ rank → expr_depth t ≤ room → sign.says ≡ op_lexeme op → Fits room (right_rank op) right side → Extends (suc n) rank room (two_sides op t right) left (w ++ sign ∷ side)
+one_more : (n rank room : ℕ) (left : AstExprTree) (op : Op2) (t right : AstExprTree) (w : List Tok) (sign : Tok) (side : List Tok) → Extends n rank room t left w → op_rank op ≡ rank → ast_expr_depth t ≤ room → sign.says ≡ op_lexeme op → Fits room (right_rank op) right side → Extends (suc n) rank room (two_sides op t right) left (w ++ sign ∷ side)
 one_more zero rank room left op t right w sign side same ranked low written fits = first_one zero rank room left op t right w sign side same ranked low written fits
 one_more (suc n) rank room left op t right w sign side (inl same) ranked low written fits = first_one (suc n) rank room left op t right w sign side same ranked low written fits
 one_more (suc n) rank room left op t right w sign side (inr (op', right', link)) ranked low written fits =
@@ -146,7 +147,7 @@ bare n rank room t w tight h = record {
 }
 
 -- the parts of an expression with two sides, which are those of its left side and one operator more
-grown : (n rank room : ℕ) (op : Op2) (l r : AstExprTree) (sign : Tok) (w side : List Tok) → Parts n rank room l w → op_rank op ≡ suc rank → expr_depth l ≤ room → sign.says ≡ op_lexeme op → Fits room (right_rank op) r side → Parts (suc n) rank room (two_sides op l r) (w ++ sign ∷ side)
+grown : (n rank room : ℕ) (op : Op2) (l r : AstExprTree) (sign : Tok) (w side : List Tok) → Parts n rank room l w → op_rank op ≡ suc rank → ast_expr_depth l ≤ room → sign.says ≡ op_lexeme op → Fits room (right_rank op) r side → Parts (suc n) rank room (two_sides op l r) (w ++ sign ∷ side)
 grown n rank room op l r sign w side h ranked low written fits = record {
   left = h.left;
   front = h.front;
@@ -174,7 +175,7 @@ record Sides (room : ℕ) (op : Op2) (l r : AstExprTree) (w : List Tok) : Type 0
   right_side : List Tok
   splits : w ≡ left_side ++ sign ∷ right_side
   left_bound : rank_of l ≤ left_rank op
-  left_low : expr_depth l ≤ room
+  left_low : ast_expr_depth l ≤ room
   left_spelled : expr_form l left_side
   written : sign.says ≡ op_lexeme op
   right_fits : Fits room (right_rank op) r right_side
@@ -201,27 +202,27 @@ suc_apart : (a b : ℕ) → (a ≡ b → ⊥) → suc a ≢ suc b
 suc_apart a b differs = omega (arith, differs)
 
 -- the parts of an expression with two sides whose operator is of the rank, where those of its left side are known
-sides_within : (rank room : ℕ) (op : Op2) (l r : AstExprTree) (w : List Tok) → (rank ≡ 3 → ⊥) → ((v : List Tok) → Fits (suc room) (suc rank) l v → Parts (expr_depth l) rank room l v) → Fits (suc room) (suc rank) (two_sides op l r) w → op_rank op ≡ suc rank → Parts (expr_depth (two_sides op l r)) rank room (two_sides op l r) w
+sides_within : (rank room : ℕ) (op : Op2) (l r : AstExprTree) (w : List Tok) → (rank ≡ 3 → ⊥) → ((v : List Tok) → Fits (suc room) (suc rank) l v → Parts (ast_expr_depth l) rank room l v) → Fits (suc room) (suc rank) (two_sides op l r) w → op_rank op ≡ suc rank → Parts (ast_expr_depth (two_sides op l r)) rank room (two_sides op l r) w
 sides_within rank room op l r w other known h ranked =
     let sides = sides_of room (suc rank) op l r w h in
     let same : left_rank op ≡ suc rank = op_left op ∙ rw (ranked, not_eqb (suc rank) 4 (suc_apart rank 3 other)) refl in
     let left : Fits (suc room) (suc rank) l sides.left_side = record { bound = rw same at sides.left_bound; depth = omega (arith, sides.left_low); spelled = sides.left_spelled } in
-    rw sides.splits (more_parts (suc (expr_depth l)) (expr_depth (two_sides op l r)) rank room (two_sides op l r) (sides.left_side ++ sides.sign ∷ sides.right_side) (omega arith)
-    (grown (expr_depth l) rank room op l r sides.sign sides.left_side sides.right_side (known sides.left_side left) ranked sides.left_low sides.written sides.right_fits))
+    rw sides.splits (more_parts (suc (ast_expr_depth l)) (ast_expr_depth (two_sides op l r)) rank room (two_sides op l r) (sides.left_side ++ sides.sign ∷ sides.right_side) (omega arith)
+    (grown (ast_expr_depth l) rank room op l r sides.sign sides.left_side sides.right_side (known sides.left_side left) ranked sides.left_low sides.written sides.right_fits))
 
 -- the same, whatever the operator's rank
-sides_cases : (rank room : ℕ) (op : Op2) (l r : AstExprTree) (w : List Tok) → (rank ≡ 3 → ⊥) → ((v : List Tok) → Fits (suc room) (suc rank) l v → Parts (expr_depth l) rank room l v) → Fits (suc room) (suc rank) (two_sides op l r) w → ((eqb (op_rank op) (suc rank) ≡ true) × (op_rank op ≡ suc rank)) ⊎ ((eqb (op_rank op) (suc rank) ≡ false) × (op_rank op ≢ suc rank)) → Parts (expr_depth (two_sides op l r)) rank room (two_sides op l r) w
+sides_cases : (rank room : ℕ) (op : Op2) (l r : AstExprTree) (w : List Tok) → (rank ≡ 3 → ⊥) → ((v : List Tok) → Fits (suc room) (suc rank) l v → Parts (ast_expr_depth l) rank room l v) → Fits (suc room) (suc rank) (two_sides op l r) w → ((eqb (op_rank op) (suc rank) ≡ true) × (op_rank op ≡ suc rank)) ⊎ ((eqb (op_rank op) (suc rank) ≡ false) × (op_rank op ≢ suc rank)) → Parts (ast_expr_depth (two_sides op l r)) rank room (two_sides op l r) w
 sides_cases rank room op l r w other known h (inl same) = sides_within rank room op l r w other known h same.1
-sides_cases rank room op l r w other known h (inr differs) = bare (expr_depth (two_sides op l r)) rank room (two_sides op l r) w (omega (arith, h.bound, differs.1)) h
+sides_cases rank room op l r w other known h (inr differs) = bare (ast_expr_depth (two_sides op l r)) rank room (two_sides op l r) w (omega (arith, h.bound, differs.1)) h
 
 -- fewer operators than an expression is deep extend its leftmost part of the next tighter rank, at ranks other than those of comparisons, `-` and `not`
-parts_within : (rank room : ℕ) (t : AstExprTree) (w : List Tok) → (rank ≡ 0 → ⊥) → (rank ≡ 3 → ⊥) → (rank ≡ 4 → ⊥) → Fits (suc room) (suc rank) t w → Parts (expr_depth t) rank room t w
-parts_within rank room (number n) w a b c h = bare (expr_depth (number n)) rank room (number n) w (omega arith) h
-parts_within rank room (name v) w a b c h = bare (expr_depth (name v)) rank room (name v) w (omega arith) h
-parts_within rank room (paren e) w a b c h = bare (expr_depth (paren e)) rank room (paren e) w (omega arith) h
-parts_within rank room (call_of v es) w a b c h = bare (expr_depth (call_of v es)) rank room (call_of v es) w (omega arith) h
-parts_within rank room (minus e) w a b c h = bare (expr_depth (minus e)) rank room (minus e) w (omega (arith, a)) h
-parts_within rank room (negation e) w a b c h = bare (expr_depth (negation e)) rank room (negation e) w (omega (arith, c, h.bound)) h
+parts_within : (rank room : ℕ) (t : AstExprTree) (w : List Tok) → (rank ≡ 0 → ⊥) → (rank ≡ 3 → ⊥) → (rank ≡ 4 → ⊥) → Fits (suc room) (suc rank) t w → Parts (ast_expr_depth t) rank room t w
+parts_within rank room (number n) w a b c h = bare (ast_expr_depth (number n)) rank room (number n) w (omega arith) h
+parts_within rank room (name v) w a b c h = bare (ast_expr_depth (name v)) rank room (name v) w (omega arith) h
+parts_within rank room (paren e) w a b c h = bare (ast_expr_depth (paren e)) rank room (paren e) w (omega arith) h
+parts_within rank room (call_of v es) w a b c h = bare (ast_expr_depth (call_of v es)) rank room (call_of v es) w (omega arith) h
+parts_within rank room (minus e) w a b c h = bare (ast_expr_depth (minus e)) rank room (minus e) w (omega (arith, a)) h
+parts_within rank room (negation e) w a b c h = bare (ast_expr_depth (negation e)) rank room (negation e) w (omega (arith, c, h.bound)) h
 parts_within rank room (two_sides op l r) w a b c h =
     sides_cases rank room op l r w b (λ v left. parts_within rank room l v a b c left) h (eqb_tells (op_rank op) (suc rank))
 
@@ -259,7 +260,7 @@ parts_of rank room t w a c h = by_rank (eqb_tells (suc rank) 4)
         let three : rank ≡ 3 = omega (arith, same.1) in
         subst (λ k. Parts (turns_at (suc k) room) k room t w) (sym three) (compared_parts room t w (rw three at h))
     by_rank (inr differs) =
-        rw differs.0 (more_parts (expr_depth t) (suc room) rank room t w h.depth (parts_within rank room t w a (omega (arith, differs.1)) c h))
+        rw differs.0 (more_parts (ast_expr_depth t) (suc room) rank room t w h.depth (parts_within rank room t w a (omega (arith, differs.1)) c h))
 
 -- and so it is put together
 pub whole_of : (rank room : ℕ) (t left : AstExprTree) (w v : List Tok) → Fits (suc room) rank left w → Extends (turns_at (suc rank) room) (suc rank) room t left v → Fits (suc room) (suc rank) t (w ++ v)

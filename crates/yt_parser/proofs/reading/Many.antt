@@ -39,12 +39,3 @@ many_enough test p h (suc n) (suc m) s hn hm =
 pub many_is : {X : Type 0} (test : List Tok → Bool) (p : Reader X) → Steps test p → (n : ℕ) (s : List Tok) → length s ≤ n → many_of n test p s ≡ many test p s
 unfolding many
 many_is test p h n s le = many_enough test p h n (length s) s le (omega arith)
-
--- one thing, and then more, where the tokens begin so
-pub many_step : {X : Type 0} (test : List Tok → Bool) (p : Reader X) → Steps test p → (s : List Tok) → many test p s ≡ (if test s then and_then (p s) (λ x rest. made (λ xs. x ∷ xs) (many test p rest)) else got [] s)
-unfolding many
-many_step test p h [] = sym (if_false (test []) _ (got [] []) h.at_end)
-many_step test p h (t ∷ ts) =
-    if_same (test (t ∷ ts)) _ _ (got [] (t ∷ ts)) λ passes. and_then_same (p (t ∷ ts)) _ _ λ x rest is.
-    let less : length rest < length (t ∷ ts) = h.takes (t ∷ ts) x rest passes is in
-    ap (made (λ xs. x ∷ xs)) (many_enough test p h (length ts) (length rest) rest (omega arith) (omega arith))

@@ -3,9 +3,10 @@ use Rattle.std.proofs.Common.{◌≡◌, pos, Bool, true, false, if◌then◌els
 use Rattle.yt_graph.specs.declared.place.Place.{Place}
 use Rattle.yt_graph.specs.declared.ast.Word.{Word}
 use Rattle.yt_graph.specs.declared.ast.Num.{Num}
+use Rattle.yt_graph.specs.Names.{is_name}
 use Rattle.yt_parser.specs.declared.sign.Keyword.{Keyword}
 use Rattle.yt_parser.specs.declared.sign.Mark.{Mark}
-use Rattle.yt_parser.specs.Lexemes.{Lexeme, word, key, mark, digits, Tok, IsName, IsLexeme, keyword_number, mark_number}
+use Rattle.yt_parser.specs.Lexemes.{Lexeme, word, key, mark, digits, Tok, IsLexeme, keyword_number, mark_number}
 use Rattle.yt_parser.specs.Forms.{Form, keyword, symbol, named, counted}
 use Rattle.yt_parser.specs.Reading.{Reading, got, stuck, Reader, at_key, at_mark, key_reader, mark_reader, word_reader, number_reader}
 use Rattle.yt_parser.proofs.reading.Lawful.{SameHead, ReadsFront, StopsBehind, Lawful}
@@ -262,8 +263,8 @@ abbrev pub some_word : Word
 some_word = record { text = codes "a"; place = no_place }
 
 -- it is a name
-some_name : IsName (codes "a")
-some_name = record { short = omega arith; begins = refl; goes_on = refl; free = refl }
+some_name : is_name (codes "a") ≡ true
+some_name = refl
 
 -- the law of names
 pub word_lawful : Lawful word_reader named Any

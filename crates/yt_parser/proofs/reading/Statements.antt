@@ -5,12 +5,13 @@ use Rattle.yt_graph.specs.declared.ast.Num.{Num}
 use Rattle.yt_graph.specs.declared.ast.Word.{Word}
 use Rattle.yt_graph.specs.declared.place.Place.{Place}
 use Rattle.yt_graph.specs.AstPicture.{AstExprTree, AstExprsTree, AstStmtTree, let_local, assign, send_on, when_only, when_else, turns, AstBlockTree}
+use Rattle.yt_graph.specs.AstWellFormed.{ast_stmt_depth, ast_block_depth}
 use Rattle.yt_parser.specs.declared.sign.Keyword.{Keyword}
 use Rattle.yt_parser.specs.declared.sign.Keyword.TheVariants as keys
 use Rattle.yt_parser.specs.declared.sign.Mark.TheVariants.{LeftBrace, RightBrace, Assign}
 use Rattle.yt_parser.specs.Lexemes.{Tok, word, key, mark}
 use Rattle.yt_parser.specs.Forms.{Form, ◌▹◌, keyword, symbol, named, counted, parens, braces}
-use Rattle.yt_parser.specs.Grammar.{value_form, values_form, stmt_form, stmts_form, stmt_depth, stmts_depth}
+use Rattle.yt_parser.specs.Grammar.{value_form, values_form, stmt_form, stmts_form}
 use Rattle.yt_parser.specs.Reading.{Reader, made, both, choice, optional, at_key, behind_key, behind_mark, word_reader, number_reader, value_reader, values_reader, if_reader, repeat_reader, stmt_reader}
 use Rattle.yt_parser.proofs.reading.Lawful.{Lawful}
 use Rattle.yt_parser.proofs.reading.Follows.{NotContinued}
@@ -24,11 +25,11 @@ use Rattle.yt_parser.proofs.reading.Values.{values_lawful}
 
 -- a statement, in a block in which so many others may stand in each other
 abbrev pub StmtIn : ℕ → AstStmtTree → Form
-StmtIn blocks s w = (stmt_depth s ≤ blocks) × stmt_form s w
+StmtIn blocks s w = (ast_stmt_depth s ≤ blocks) × stmt_form s w
 
 -- a block, with so many that stand in each other
 abbrev pub BlockIn : ℕ → AstBlockTree → Form
-BlockIn blocks b w = (1 + stmts_depth b ≤ blocks) × braces (stmts_form b) w
+BlockIn blocks b w = (1 + ast_block_depth b ≤ blocks) × braces (stmts_form b) w
 
 -- what may follow a statement
 abbrev pub AfterStmt : List Tok → Type 0
@@ -217,7 +218,7 @@ only_there : (blocks : ℕ) (b : AstBlockTree) (w : List Tok) → BlocksForm blo
 only_there blocks b w c = (drop_nothing (BlockIn blocks b) w c).1
 
 -- and back
-only_back : (blocks : ℕ) (b : AstBlockTree) → 1 + stmts_depth b ≤ blocks → (w : List Tok) → braces (stmts_form b) w → BlocksForm blocks (b, None) w
+only_back : (blocks : ℕ) (b : AstBlockTree) → 1 + ast_block_depth b ≤ blocks → (w : List Tok) → braces (stmts_form b) w → BlocksForm blocks (b, None) w
 only_back blocks b h w c = add_nothing (BlockIn blocks b) w (h, c)
 
 -- two blocks
@@ -225,7 +226,7 @@ two_there : (blocks : ℕ) (b d : AstBlockTree) (w : List Tok) → BlocksForm bl
 two_there blocks b d w c = (c.0, c.1, c.2, c.3.1, (c.4.0, c.4.1, c.4.2, c.4.3, c.4.4.1))
 
 -- and back
-two_back : (blocks : ℕ) (b d : AstBlockTree) → 1 + stmts_depth b ≤ blocks → 1 + stmts_depth d ≤ blocks → (w : List Tok) → (braces (stmts_form b) ▹ keyword keys.Else ▹ braces (stmts_form d)) w → BlocksForm blocks (b, Some d) w
+two_back : (blocks : ℕ) (b d : AstBlockTree) → 1 + ast_block_depth b ≤ blocks → 1 + ast_block_depth d ≤ blocks → (w : List Tok) → (braces (stmts_form b) ▹ keyword keys.Else ▹ braces (stmts_form d)) w → BlocksForm blocks (b, Some d) w
 two_back blocks b d h k w c = (c.0, c.1, c.2, (h, c.3), (c.4.0, c.4.1, c.4.2, c.4.3, (k, c.4.4)))
 
 -- a bound and a block
@@ -233,7 +234,7 @@ most_there : (blocks : ℕ) (n : Num) (b : AstBlockTree) (w : List Tok) → ((ke
 most_there blocks n b w c = group_right (keyword keys.Max) (counted n) (braces (stmts_form b)) w (c.0, c.1, c.2, c.3, c.4.1)
 
 -- and back
-most_back : (blocks : ℕ) (n : Num) (b : AstBlockTree) → 1 + stmts_depth b ≤ blocks → (w : List Tok) → (keyword keys.Max ▹ counted n ▹ braces (stmts_form b)) w → ((keyword keys.Max ▹ counted n) ▹ BlockIn blocks b) w
+most_back : (blocks : ℕ) (n : Num) (b : AstBlockTree) → 1 + ast_block_depth b ≤ blocks → (w : List Tok) → (keyword keys.Max ▹ counted n ▹ braces (stmts_form b)) w → ((keyword keys.Max ▹ counted n) ▹ BlockIn blocks b) w
 most_back blocks n b h w c = let d = group_left (keyword keys.Max) (counted n) (braces (stmts_form b)) w c in (d.0, d.1, d.2, d.3, (h, d.4))
 
 -- behind a reserved word and a value

@@ -1,11 +1,10 @@
-use Rattle.std.proofs.Common.{◌≡◌, ◌<◌, ◌≤◌, ◌+◌, sym, ap, subst, ◌∙◌, refl, length, suc, arith, List, ℕ}
+use Rattle.std.proofs.Common.{◌≡◌, ◌≤◌, ◌+◌, sym, ap, subst, ◌∙◌, refl, length, suc, arith, ℕ}
 use Rattle.std.specs.Prelude.{All, Vec}
 use Rattle.std.specs.declared.alloc.Global.{Global}
 use Rattle.std.proofs.lemmas.List.{length-map}
-use Rattle.yartos.specs.declared.status.Status.TheVariants.{Long}
 use Rattle.yartos.specs.Answer.{IsDueOf, read, too_long, long_line}
 use Rattle.yartos.specs.Reads.{contents}
-use Rattle.yartos.specs.Words.{texts, file_count}
+use Rattle.yartos.specs.Words.{texts}
 use Rattle.yartos.proofs.Judged.{most_files, read_count, read_short, long_within}
 use Rattle.yartos.proofs.answer_files.answer_files.Goals as goal
 

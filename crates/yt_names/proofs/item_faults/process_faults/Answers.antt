@@ -5,4 +5,4 @@ use Rattle.yt_names.proofs.item_faults.process_faults.Goals as goal
 
 pub ports_faults-requires : goal.ports_faults-requires
 ports_faults-requires c =
-    omega (arith, c.args.part.now.counted, ap length c.requires, length-map c.args.ports.now port_decl_tree)
+    omega (arith, c.args.part.now.fits, ap length c.requires, length-map c.args.ports.now port_decl_tree)

@@ -6,8 +6,8 @@ use Rattle.yt_names.specs.Paths.{ports_of}
 use Rattle.yt_names.proofs.ListLemmas.{count_of}
 use Rattle.yt_names.proofs.part.add_part.Goals as goal
 
-pub invariant_of-result-clause-counted : goal.invariant_of-result-clause-counted
-invariant_of-result-clause-counted c =
+pub invariant_of-result-clause-fits : goal.invariant_of-result-clause-fits
+invariant_of-result-clause-fits c =
     let count : length c.args.ports.now.items + length (ports_of (item_tree c.args.item.now)) ≡ length c.add_ports_of.new.ports.items =
     count_of (λ (p : PortPart). port_decl_tree p.decl.now) c.args.ports.now.items c.add_ports_of.new.ports.items _ c.in_ok-names.ensures.ports in
     omega arith

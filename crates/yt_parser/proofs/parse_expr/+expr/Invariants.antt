@@ -1,7 +1,7 @@
 use Rattle.std.proofs.Common.{◌≡◌, ◌+◌, ◌-◌, ◌*◌, ◌≤◌, ◌<◌, map, length}
 use Rattle.yt_graph.specs.AstPicture.{ast_expr_tree, ast_exprs_tree}
+use Rattle.yt_graph.specs.AstWellFormed.{ast_exprs_depth}
 use Rattle.yt_parser.specs.declared.sign.Mark.TheVariants.{Comma}
-use Rattle.yt_parser.specs.Grammar.{exprs_depth}
 use Rattle.yt_parser.specs.Reading.{at_mark, behind_mark, one_or_more, chain, expr_reader}
 use Rattle.yt_parser.proofs.parsing.Loops.{GoesOn}
 use Rattle.yt_parser.proofs.parse_expr.+expr.Given as goal
@@ -51,7 +51,7 @@ invariant-chain-links l = (length l.cursor ≤ length l.fn.cursor)
 abbrev pub invariant-exprs-exprs : goal.invariant-exprs-exprs
 invariant-exprs-exprs l = (length l.cursor < length l.fn.cursor)
     × (l.depth ≤ l.levels)
-    × (l.depth ≡ exprs_depth (ast_exprs_tree l.exprs))
+    × (l.depth ≡ ast_exprs_depth (ast_exprs_tree l.exprs))
     × GoesOn (one_or_more (expr_reader l.levels 7) l.fn.cursor) (at_mark Comma) (behind_mark Comma (expr_reader l.levels 7)) (map ast_expr_tree l.exprs) l.cursor
 
 abbrev pub decreases-exprs-exprs : goal.decreases-exprs-exprs

@@ -5,6 +5,7 @@ use Rattle.yt_graph.specs.AstPicture.{ast_tree}
 use Rattle.yt_parser.specs.Signs.{place_next}
 use Rattle.yt_parser.proofs.parsing.Lexed.{lexes-spans, lexes-tokens}
 use Rattle.yt_parser.proofs.parsing.Parsed.{read-spelled, read-only, stuck-fault, stuck-none, place-some, place-none}
+use Rattle.yt_parser.proofs.printing.WellFormed.{spelled_is_writable}
 use Rattle.yt_parser.proofs.parser.parse.Goals as goal
 
 pub new-cursor-requires-clause-spans : goal.new-cursor-requires-clause-spans
@@ -19,6 +20,9 @@ tree c = rw c.new-cursor.ensures at c.in-Ok.ensures.read
 
 pub returns-in-Ok-clause-ok : goal.returns-in-Ok-clause-ok
 returns-in-Ok-clause-ok c = read-spelled _ _ _ (lexes-tokens c.args.text.now 0 c.args.tokens.now c.requires.tokens) (tree c)
+
+pub returns-in-Ok-clause-writable : goal.returns-in-Ok-clause-writable
+returns-in-Ok-clause-writable c = spelled_is_writable _ _ (read-spelled _ _ _ (lexes-tokens c.args.text.now 0 c.args.tokens.now c.requires.tokens) (tree c))
 
 pub returns-in-Ok-clause-only : goal.returns-in-Ok-clause-only
 returns-in-Ok-clause-only c = λ items h. read-only _ _ items _ (tree c) h

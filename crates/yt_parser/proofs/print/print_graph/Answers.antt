@@ -3,9 +3,11 @@ use Rattle.std.specs.List.{flat_map, list_all}
 use Rattle.std.proofs.lemmas.Grind.{common_steps}
 use Rattle.yt_graph.specs.AstPicture.{item_tree, ast_tree}
 use Rattle.yt_parser.specs.Writable.{is_item}
-use Rattle.yt_parser.specs.CanonicalText.{item_layout, text_of}
+use Rattle.yt_parser.specs.SamePlaces.{ReadsAs}
+use Rattle.yt_parser.specs.CanonicalText.{item_layout, text_of, canonical_text}
 use Rattle.yt_parser.proofs.printing.Texts.{next_text, next_passes}
 use Rattle.yt_parser.proofs.printing.Spelled.{spelled_writable}
+use Rattle.yt_parser.proofs.printing.Law.{printed_is_read}
 use Rattle.yt_parser.proofs.print.print_graph.Goals as goal
 
 pub print_item-requires : goal.print_item-requires
@@ -29,3 +31,9 @@ loop-item-preserved c =
 
 pub loop-item-init : goal.loop-item-init
 loop-item-init c = record { so_far = ap (λ (b : List ℕ). b ++ text_of (flat_map item_layout (map item_tree c.as_slice-item-items.result.now))) c.new-out.ensures; writable = subst (λ xs. list_all is_item (map item_tree xs) ≡ true) (sym c.as_slice-item-items.ensures) (spelled_writable (ast_tree c.args.ast.now) c.requires.0 c.requires.1) }
+
+pub returns-clause-read : goal.returns-clause-read
+returns-clause-read c =
+    let tree = ast_tree c.args.ast.now in
+    let same : c.into_bytes.result.items ≡ canonical_text tree = grind (arith, common_steps) in
+    subst (λ text. ReadsAs text tree) (sym same) (printed_is_read tree c.requires)

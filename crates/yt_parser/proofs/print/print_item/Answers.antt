@@ -1,7 +1,7 @@
 use Rattle.std.proofs.Common.{◌≡◌, ◌++◌, codes, map}
 use Rattle.std.specs.List.{flat_map, list_all}
 use Rattle.yt_graph.specs.AstPicture.{port_decl_tree, item_tree}
-use Rattle.yt_lexer.specs.First.{is_name}
+use Rattle.yt_graph.specs.Names.{is_name}
 use Rattle.yt_parser.specs.Writable.{is_inside, is_var}
 use Rattle.yt_parser.specs.CanonicalText.{inside_layout, var_layout, port_layout, item_layout, text_of}
 use Rattle.yt_parser.proofs.printing.Texts.{ok_when, both, process_text}

@@ -1,7 +1,7 @@
 use Rattle.std.proofs.Common.{◌≡◌, ◌++◌, codes, arith, ap}
 use Rattle.std.specs.List.{flat_map}
 use Rattle.yt_graph.specs.AstPicture.{ast_block_tree, port_decl_tree}
-use Rattle.yt_parser.specs.Grammar.{stmts_depth}
+use Rattle.yt_graph.specs.AstWellFormed.{ast_block_depth}
 use Rattle.yt_parser.specs.CanonicalText.{braced, head_layout, out_layout, port_layout, stmts_layout, text_of}
 use Rattle.yt_parser.proofs.printing.Texts.{ok_when, port_text}
 use Rattle.yt_parser.proofs.printing.Depths.{port_within}
@@ -9,7 +9,7 @@ use Rattle.yt_parser.proofs.print.print_port.Goals as goal
 
 pub print_block-requires : goal.print_block-requires
 print_block-requires c =
-    let same = ap (λ b. stmts_depth (ast_block_tree b)) c.deref.ensures.value in
+    let same = ap (λ b. ast_block_depth (ast_block_tree b)) c.deref.ensures.value in
     omega (arith, same, port_within (port_decl_tree c.args.port.now) c.requires)
 
 pub returns : goal.returns

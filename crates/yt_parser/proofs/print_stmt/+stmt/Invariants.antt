@@ -1,7 +1,7 @@
 use Rattle.std.proofs.Common.{◌≡◌, ◌≤◌, ◌<◌, ◌+◌, ◌^◌, ◌++◌, drop}
 use Rattle.yt_graph.specs.AstPicture.{ast_stmt_tree, ast_block_tree}
+use Rattle.yt_graph.specs.AstWellFormed.{ast_block_depth}
 use Rattle.yt_graph.specs.AstParts.{ast_stmt_weight, ast_block_weight}
-use Rattle.yt_parser.specs.Grammar.{stmts_depth}
 use Rattle.yt_parser.specs.CanonicalText.{stmts_layout, text_of}
 use Rattle.yt_parser.proofs.print_stmt.+stmt.Given as goal
 
@@ -15,6 +15,6 @@ decreases-print_block l = ast_block_weight (ast_block_tree l.b.now)
 abbrev pub invariant-print_block-loop-s : goal.invariant-print_block-loop-s
 invariant-print_block-loop-s l = record {
   so_far : l.out ++ text_of (stmts_layout (l.braces + 1) (ast_block_tree (drop l.s-index l.b))) ≡ l.initial.out ++ text_of (stmts_layout (l.braces + 1) (ast_block_tree l.b));
-  room : l.braces + 1 + stmts_depth (ast_block_tree (drop l.s-index l.b)) < 2 ^ 64;
+  room : l.braces + 1 + ast_block_depth (ast_block_tree (drop l.s-index l.b)) < 2 ^ 64;
   lighter : ast_block_weight (ast_block_tree (drop l.s-index l.b)) ≤ ast_block_weight (ast_block_tree l.b);
 }

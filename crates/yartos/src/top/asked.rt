@@ -1,0 +1,28 @@
+//! Words that are asked in memory.
+use crate::{Status, yartos};
+use std::alloc::{AllocError, Global};
+use yt_io::{MemShelf, MemSink};
+
+/// The status and the printed text of words, where the shelf holds a graph under `g` and a trace under `t`, and these reads and
+/// writes fail.
+pub(crate) fn ask(
+    alloc: Global,
+    words: &[&str],
+    graph: Vec<u8>,
+    trace: Vec<u8>,
+    failing_reads: Vec<u64>,
+    failing_writes: Vec<(u64, usize)>,
+) -> Result<(Status, Vec<u8>), AllocError> {
+    let mut list = Vec::new(alloc);
+    for word in words {
+        list.push(String::from_str(alloc, word)?)?;
+    }
+    let files = vec![in alloc;
+        (String::from_str(alloc, "g")?, graph),
+        (String::from_str(alloc, "t")?, trace),
+    ]?;
+    let mut shelf = MemShelf::with(files, failing_reads);
+    let mut sink = MemSink::with_room(alloc, 1000, failing_writes)?;
+    let status = yartos(alloc, &list, &mut shelf, &mut sink);
+    Ok((status, sink.bytes().to_vec(alloc)?))
+}

@@ -1,5 +1,0 @@
-use Rattle.yt_graph.proofs.Values.{neg_is}
-use Rattle.yt_code.proofs.value.negated.Goals as goal
-
-pub returns : goal.returns
-returns c = neg_is c.args.x c.wrapping_neg.result c.ranges.x (record { sfits = c.wrapping_neg.type_inv }) c.wrapping_neg.ensures
