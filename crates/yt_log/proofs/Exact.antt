@@ -1,0 +1,130 @@
+-- A set fits exactly where no legal plan must miss.
+use Rattle.std.proofs.Common.{◌≡◌, ℕ, zero, suc, ◌+◌, ◌-◌, ◌<◌, ◌≤◌, ◌⊎◌, List, [], ◌∷◌, Some, None, refl, sym, subst, ◌∙◌, inl, inr, ⊎_elim, arith}
+use Rattle.std.proofs.lemmas.Bool.{cases_lt, cases_eq}
+use Rattle.std.specs.List.{All}
+use Rattle.yt_set.specs.declared.task.Task.{Task}
+use Rattle.yt_set.specs.Tasks.{IsTaskSet, FitsInterval, LeavesRoom, within, demand_bound, hyperperiod, load}
+use Rattle.yt_set.proofs.Hyperperiods.{all_more}
+use Rattle.yt_log.specs.declared.plan.PlanItem.{PlanItem}
+use Rattle.yt_log.specs.Tasks.{Has, task_of}
+use Rattle.yt_log.specs.EdfDdm.{edf_ddm}
+use Rattle.yt_log.specs.Patterns.{MustMiss, pattern_plan, all_tasks, blocker}
+use Rattle.yt_log.specs.Laws.{RuleMisses, FitsIsExact}
+use Rattle.yt_log.proofs.Demands.{has_number}
+use Rattle.yt_log.proofs.Floors.{floor_at, floor_some, floor_none}
+use Rattle.yt_log.proofs.Overloads.{overloads}
+use Rattle.yt_log.proofs.Blockers.{blockers}
+use Rattle.yt_log.proofs.Exclusions.{rule_is_safe}
+use Rattle.yt_log.proofs.Keeping.{fits_keeps}
+use Rattle.yt_log.proofs.Made.{rule_makes_logs}
+
+-- a number below n with a property, or none has it
+search_below : (P : ℕ → Type 0) → ((k : ℕ) → P k ⊎ (P k → ⊥)) → (n : ℕ) → ((k : ℕ) × (k < n) × P k) ⊎ ((k : ℕ) → k < n → P k → ⊥)
+search_below P decide zero = inr (λ k h p. omega arith)
+search_below P decide (suc n) =
+    ⊎_elim
+    (λ (p : P n). inl (n, omega arith, p))
+    (λ (q : P n → ⊥). ⊎_elim
+    (λ (r : (k : ℕ) × (k < n) × P k). let l = r.1 in inl (r.0, omega arith, r.2))
+    (λ (r : (k : ℕ) → k < n → P k → ⊥). inr (λ k h p. ⊎_elim (λ (l : k < n). r k l p) (λ (l : n ≤ k). let e : k ≡ n = omega arith in q (subst P e p)) (cases_lt k n)))
+    (search_below P decide n))
+    (decide n)
+
+-- likewise a task
+search_tasks : (P : Task → Type 0) → ((i : Task) → P i ⊎ (P i → ⊥)) → (xs : List Task) → ((i : Task) × (Has xs i) × P i) ⊎ ((i : Task) → Has xs i → P i → ⊥)
+search_tasks P decide [] = inr (λ i is p. is)
+search_tasks P decide (x ∷ xs) =
+    ⊎_elim
+    (λ (p : P x). inl (x, inl refl, p))
+    (λ (q : P x → ⊥). ⊎_elim
+    (λ (r : (i : Task) × (Has xs i) × P i). inl (r.0, inr r.1, r.2))
+    (λ (r : (i : Task) → Has xs i → P i → ⊥). inr (λ i is p. ⊎_elim (λ (e : i ≡ x). q (subst P e p)) (λ (k : Has xs i). r i k p) is))
+    (search_tasks P decide xs))
+    (decide x)
+
+all_has : {X : Type 0} (P : X → Type 0) (xs : List X) → ((x : X) → Has xs x → P x) → All P xs
+all_has P [] h = λ k d lt. absurd (omega arith)
+all_has P (x ∷ xs) h = all_more P x xs (h x (inl refl)) (all_has P xs (λ y is. h y (inr is)))
+
+-- a span in which a task leaves no room
+record Fails (tasks : List Task) (task : Task) (span : ℕ) : Type 0 where
+  above : floor_at tasks task < span
+  over : span < task.cost + demand_bound tasks (span - 1)
+
+record Blocks (tasks : List Task) (task : Task) : Type 0 where
+  held : 0 < task.resource
+  span : ℕ
+  below : span < within task
+  fails : Fails tasks task span
+
+fails_or : (tasks : List Task) (task : Task) (span : ℕ) → Fails tasks task span ⊎ (Fails tasks task span → ⊥)
+fails_or tasks task span =
+    ⊎_elim
+    (λ (a : floor_at tasks task < span). ⊎_elim
+    (λ (b : span < task.cost + demand_bound tasks (span - 1)). inl (record { above = a; over = b }))
+    (λ (b : task.cost + demand_bound tasks (span - 1) ≤ span). inr (λ f. let o = f.over in omega arith))
+    (cases_lt span (task.cost + demand_bound tasks (span - 1))))
+    (λ (a : span ≤ floor_at tasks task). inr (λ f. let o = f.above in omega arith))
+    (cases_lt (floor_at tasks task) span)
+
+blocks_or : (tasks : List Task) (task : Task) → Blocks tasks task ⊎ (Blocks tasks task → ⊥)
+blocks_or tasks task =
+    ⊎_elim
+    (λ (a : 0 < task.resource). ⊎_elim
+    (λ (r : (k : ℕ) × (k < within task) × Fails tasks task k). inl (record { held = a; span = r.0; below = r.1; fails = r.2 }))
+    (λ (r : (k : ℕ) → k < within task → Fails tasks task k → ⊥). inr (λ b. r b.span b.below b.fails))
+    (search_below (Fails tasks task) (fails_or tasks task) (within task)))
+    (λ (a : task.resource ≤ 0). inr (λ b. let h = b.held in omega arith))
+    (cases_lt 0 task.resource)
+
+-- a task that leaves no room, with its plan
+blocks_plan : (tasks : List Task) → IsTaskSet tasks → (task : Task) → Has tasks task → Blocks tasks task → (plan : List PlanItem) × (h : ℕ) × MustMiss tasks plan h
+blocks_plan tasks set task is b =
+    let n = has_number tasks task is in
+    let P : Task → Type 0 = λ τ. (Has tasks τ) × Blocks tasks τ in
+    let c = subst P (sym n.3) (is, b) in
+    let τ = task_of tasks n.0 in
+    let k = c.1 in
+    (pattern_plan (blocker tasks n.0 k.span), k.span, blockers tasks set n.0 n.1 n.2 (floor_at tasks τ) k.span (floor_some tasks τ c.0 k.held) k.fails.above k.below k.fails.over)
+
+-- where no task does so, each leaves room
+rooms_from : (tasks : List Task) → ((task : Task) → Has tasks task → Blocks tasks task → ⊥) → FitsInterval tasks
+rooms_from tasks none = all_has (LeavesRoom tasks) tasks (λ task is floor span at above below.
+    ⊎_elim
+    (λ (l : span < task.cost + demand_bound tasks (span - 1)).
+    let held : 0 < task.resource = ⊎_elim
+    (λ (z : task.resource ≡ 0). let e = floor_none tasks task.resource z in let both : None ≡ Some floor = sym e ∙ at in cc)
+    (λ (nz : task.resource ≡ 0 → ⊥). omega arith)
+    (cases_eq task.resource 0) in
+    let e : Some (floor_at tasks task) ≡ Some floor = sym (floor_some tasks task is held) ∙ at in
+    let same : floor_at tasks task ≡ floor = cc in
+    absurd (none task is (record { held = held; span = span; below = below; fails = record { above = omega arith; over = l } })))
+    (λ (l : task.cost + demand_bound tasks (span - 1) ≤ span). l)
+    (cases_lt span (task.cost + demand_bound tasks (span - 1))))
+
+pub rule_misses : RuleMisses
+rule_misses tasks plan h must log long rule =
+    let safe = rule_is_safe tasks plan must.legal log rule in
+    must.misses log long safe.lawful safe.work_conserving safe.exclusive
+
+pub fits_is_exact : FitsIsExact
+fits_is_exact = record {
+  one = λ tasks set.
+      let hp = hyperperiod tasks in
+      ⊎_elim
+      (λ (over : hp < load tasks hp). inr (pattern_plan (all_tasks tasks hp), hp, overloads.load tasks set over))
+      (λ (loads : load tasks hp ≤ hp). ⊎_elim
+      (λ (r : (i : Task) × (Has tasks i) × Blocks tasks i). inr (blocks_plan tasks set r.0 r.1 r.2))
+      (λ (none : (i : Task) → Has tasks i → Blocks tasks i → ⊥). inl (record { loads = loads; intervals = rooms_from tasks none }))
+      (search_tasks (Blocks tasks) (blocks_or tasks) tasks))
+      (cases_lt hp (load tasks hp));
+  not_both = λ tasks set fits plan h must.
+      let log = edf_ddm tasks plan h in
+      let made = rule_makes_logs tasks plan h in
+      let long = made.long in
+      let miss = rule_misses tasks plan h must log (omega arith) made.rule in
+      let due = miss.2 in
+      let late = miss.3 in
+      let kept = fits_keeps tasks set fits plan must.legal log made.rule miss.0 miss.1 (omega arith) in
+      omega arith;
+}

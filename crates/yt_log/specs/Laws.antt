@@ -1,0 +1,103 @@
+-- What is proved of every task set, plan and log.
+use Rattle.std.specs.Prelude.{◌≡◌, ◌⊎◌, ℕ, ◌+◌, ◌-◌, ◌<◌, ◌≤◌, List, [], ◌∷◌, ◌++◌, Some, None, length}
+use Rattle.std.specs.List.{All}
+use Rattle.yt_set.specs.declared.task.Task.{Task}
+use Rattle.yt_set.specs.Tasks.{IsTaskSet, FitsLoad, Fits, within, floor_of, demand_bound, hyperperiod, load}
+use Rattle.yt_log.specs.declared.plan.PlanItem.{PlanItem}
+use Rattle.yt_log.specs.Tasks.{Has, task_of}
+use Rattle.yt_log.specs.Plan.{IsNext, IsLegal}
+use Rattle.yt_log.specs.Ticks.{Ticks, done, IsWaiting, IsLawful, IsWorkConserving, IsExclusive, KeepsDeadlines, Misses}
+use Rattle.yt_log.specs.EdfDdm.{ComesFirst, choice, IsEdfDdm, edf_ddm}
+use Rattle.yt_log.specs.Patterns.{MustMiss, pattern_plan, all_tasks, blocker}
+
+-- where the load fits, no span asks for more ticks than it has
+abbrev pub EveryDemandFits : Type 0
+EveryDemandFits = (tasks : List Task) → IsTaskSet tasks → FitsLoad tasks → (t : ℕ) → demand_bound tasks t ≤ t
+
+-- where more is due than there are ticks, all tasks from zero on miss a deadline, whatever the log; so they do by the hyperperiod where the load doesn't fit
+pub record OverloadsMiss : Type 0 where
+  pub demand : (tasks : List Task) → IsTaskSet tasks → (t : ℕ) → t < demand_bound tasks t → MustMiss tasks (pattern_plan (all_tasks tasks t)) t
+  pub load : (tasks : List Task) → IsTaskSet tasks → hyperperiod tasks < load tasks (hyperperiod tasks) → MustMiss tasks (pattern_plan (all_tasks tasks (hyperperiod tasks))) (hyperperiod tasks)
+
+-- where a task leaves no room in a span, its job at 0 and what arrives after that miss a deadline by the span's end, whatever the log
+abbrev pub BlockersMiss : Type 0
+BlockersMiss =
+    (tasks : List Task) → IsTaskSet tasks → (i : ℕ) → 1 ≤ i → i ≤ length tasks →
+    (floor span : ℕ) → floor_of tasks (task_of tasks i).resource ≡ Some floor → floor < span → span < within (task_of tasks i) →
+    span < (task_of tasks i).cost + demand_bound tasks (span - 1) → MustMiss tasks (pattern_plan (blocker tasks i span)) span
+
+-- a log that is lawful, work-conserving and exclusive
+pub record IsSafe (tasks : List Task) (plan : List PlanItem) (log : Ticks) : Type 0 where
+  pub lawful : IsLawful plan log
+  pub work_conserving : IsWorkConserving plan log
+  pub exclusive : IsExclusive tasks plan log
+
+-- whether the set fits or not, each log of the rule is so
+abbrev pub RuleIsSafe : Type 0
+RuleIsSafe = (tasks : List Task) (plan : List PlanItem) → IsLegal tasks plan → (log : Ticks) → IsEdfDdm tasks plan log → IsSafe tasks plan log
+
+-- each log of the rule, of any length, keeps its deadlines up to its length
+abbrev pub RuleKeeps : List Task → Type 0
+RuleKeeps tasks = (plan : List PlanItem) → IsLegal tasks plan → (log : Ticks) → IsEdfDdm tasks plan log → KeepsDeadlines tasks plan log (length log)
+
+-- so it does where the set fits
+abbrev pub FitsKeeps : Type 0
+FitsKeeps = (tasks : List Task) → IsTaskSet tasks → Fits tasks → RuleKeeps tasks
+
+-- and, where no task is under a resource, where the load fits
+abbrev pub FreeFitsKeeps : Type 0
+FreeFitsKeeps = (tasks : List Task) → IsTaskSet tasks → All (λ task. task.resource ≡ 0) tasks → FitsLoad tasks → RuleKeeps tasks
+
+-- the rule's own log is among those that miss
+abbrev pub RuleMisses : Type 0
+RuleMisses =
+    (tasks : List Task) (plan : List PlanItem) (h : ℕ) → MustMiss tasks plan h →
+    (log : Ticks) → h ≤ length log → IsEdfDdm tasks plan log → Misses tasks plan log h
+
+-- each set fits or has a legal plan that must miss, and none has both
+pub record FitsIsExact : Type 0 where
+  pub one : (tasks : List Task) → IsTaskSet tasks → Fits tasks ⊎ ((plan : List PlanItem) × (h : ℕ) × MustMiss tasks plan h)
+  pub not_both : (tasks : List Task) → IsTaskSet tasks → Fits tasks → (plan : List PlanItem) (h : ℕ) → MustMiss tasks plan h → ⊥
+
+-- the log that the rule makes has the length that is asked for, and each tick of it goes where the rule gives it
+pub record IsMade (tasks : List Task) (plan : List PlanItem) (n : ℕ) : Type 0 where
+  pub long : length (edf_ddm tasks plan n) ≡ n
+  pub rule : IsEdfDdm tasks plan (edf_ddm tasks plan n)
+
+abbrev pub RuleMakesLogs : Type 0
+RuleMakesLogs = (tasks : List Task) (plan : List PlanItem) (n : ℕ) → IsMade tasks plan n
+
+-- two logs of the rule, of one plan and one length, are one
+abbrev pub RuleIsDetermined : Type 0
+RuleIsDetermined =
+    (tasks : List Task) (plan : List PlanItem) (a b : Ticks) → IsEdfDdm tasks plan a → IsEdfDdm tasks plan b → length a ≡ length b → a ≡ b
+
+-- the rule gives a tick to the item that waits and that none which waits comes before, and to none where none waits
+pub record RuleIsLeast : Type 0 where
+  pub some : (tasks : List Task) (plan : List PlanItem) (log : Ticks) (t : ℕ) (item : PlanItem) → ComesFirst tasks plan log t item → choice tasks plan log t ≡ Some item.job
+  pub none : (tasks : List Task) (plan : List PlanItem) (log : Ticks) (t : ℕ) → ((item : PlanItem) → Has plan item → IsWaiting log t item → ⊥) → choice tasks plan log t ≡ None
+
+-- a plan and a log may grow as time goes on: by an item that may follow, by items that arrive at the log's end or later, and by the tick that the rule gives
+pub record GrowsOnline : Type 0 where
+  pub item : (tasks : List Task) (plan : List PlanItem) (item : PlanItem) → IsLegal tasks plan → IsNext tasks plan item → IsLegal tasks (plan ++ item ∷ [])
+  pub plan : (tasks : List Task) (plan more : List PlanItem) (log : Ticks) → ((item : PlanItem) → Has more item → length log ≤ item.arrival) → IsEdfDdm tasks plan log → IsEdfDdm tasks (plan ++ more) log
+  pub tick : (tasks : List Task) (plan : List PlanItem) (log : Ticks) → IsEdfDdm tasks plan log → IsEdfDdm tasks plan (log ++ choice tasks plan log (length log) ∷ [])
+
+-- two items of one job and one arrival, and of one cost where the job has begun in the log
+pub record IsLike (log : Ticks) (a b : PlanItem) : Type 0 where
+  pub job : a.job ≡ b.job
+  pub arrival : a.arrival ≡ b.arrival
+  pub cost : 0 < done log a.job (length log) → a.cost ≡ b.cost
+  pub some : (1 ≤ a.cost) × (1 ≤ b.cost)
+
+-- two plans of such items
+abbrev pub AreLike : Ticks → List PlanItem → List PlanItem → Type 0
+AreLike log [] [] = Unit {0}
+AreLike log [] (b ∷ ys) = ⊥
+AreLike log (a ∷ xs) [] = ⊥
+AreLike log (a ∷ xs) (b ∷ ys) = IsLike log a b × AreLike log xs ys
+
+-- until a job has begun its cost doesn't matter to the rule, nor in the tick in which it begins
+pub record CostsWait : Type 0 where
+  pub choice : (tasks : List Task) (plan other : List PlanItem) (log : Ticks) → AreLike log plan other → (t : ℕ) → t ≤ length log → choice tasks plan log t ≡ choice tasks other log t
+  pub rule : (tasks : List Task) (plan other : List PlanItem) (log : Ticks) → AreLike log plan other → IsEdfDdm tasks plan log → IsEdfDdm tasks other log

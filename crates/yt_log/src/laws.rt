@@ -1,0 +1,74 @@
+//! What is proved of every task set, plan and log, as laws.
+ghost use Rattle.yt_log.specs.Laws.{BlockersMiss, CostsWait, EveryDemandFits, FitsIsExact, FitsKeeps, FreeFitsKeeps, GrowsOnline, OverloadsMiss, RuleIsDetermined, RuleIsLeast, RuleIsSafe, RuleMakesLogs, RuleMisses};
+ghost use Rattle.yt_log.specs.Worked.{WorkedSchedules};
+
+/// Where the load of a set fits, no span asks for more ticks than it has.
+pub fn every_demand()
+    ensures { EveryDemandFits }
+{}
+
+/// Where the load of a set doesn't fit, all tasks from zero on miss a deadline by the hyperperiod, whatever the log.
+pub fn overloads_miss()
+    ensures { OverloadsMiss }
+{}
+
+/// Where a job that keeps its resource leaves no room in a span, it and what arrives after its first tick miss a deadline by the
+/// span's end, whatever the log.
+pub fn blockers_miss()
+    ensures { BlockersMiss }
+{}
+
+/// Whatever the set, each log of the rule on a legal plan is lawful, work-conserving and exclusive.
+pub fn rule_is_safe()
+    ensures { RuleIsSafe }
+{}
+
+/// Where a set fits, each log of the rule on a legal plan keeps its deadlines up to its length.
+pub fn fits_keeps()
+    ensures { FitsKeeps }
+{}
+
+/// Where no task of a set is under a resource, it is enough for this that the load fits.
+pub fn free_fits_keeps()
+    ensures { FreeFitsKeeps }
+{}
+
+/// Of a plan that must miss, the rule's own log misses too.
+pub fn rule_misses()
+    ensures { RuleMisses }
+{}
+
+/// A set fits exactly where it has no legal plan of which every log misses.
+pub fn fits_is_exact()
+    ensures { FitsIsExact }
+{}
+
+/// The rule makes a log of each length.
+pub fn rule_makes_logs()
+    ensures { RuleMakesLogs }
+{}
+
+/// Two logs of the rule, of one plan and one length, are one.
+pub fn rule_is_determined()
+    ensures { RuleIsDetermined }
+{}
+
+/// The rule gives a tick to the waiting job that no waiting job comes before.
+pub fn rule_is_least()
+    ensures { RuleIsLeast }
+{}
+
+/// What the rule gave stays right while jobs arrive and ticks go by.
+pub fn grows_online()
+    ensures { GrowsOnline }
+{}
+
+/// Until a job has begun, the rule gives the same whatever it will cost.
+pub fn costs_wait()
+    ensures { CostsWait }
+{}
+
+/// What the rule does with the jobs of small sets, and the patterns of sets that don't fit.
+pub fn worked_schedules()
+    ensures { WorkedSchedules }
+{}

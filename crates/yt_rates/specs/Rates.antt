@@ -1,0 +1,65 @@
+-- How often messages come to the ports of a graph, and how long after its input's message each may come.
+use Rattle.std.specs.Prelude.{ℕ, zero, suc, ◌+◌, ◌-◌, ◌*◌, ◌/◌, length, slice_get}
+use Rattle.std.specs.Option.{option_map, unwrap_or}
+use Rattle.yt_graph.specs.declared.port.Feed as feed
+use Rattle.yt_graph.specs.declared.port.Feed.{Feed}
+use Rattle.yt_graph.specs.Picture.{PortTree, GraphTree}
+use Rattle.yt_graph.specs.Cost.{greatest_sends}
+use Rattle.yt_rates.specs.declared.stream.Stream.{Stream}
+
+-- the `every` of an out, from 1
+abbrev pub every_of : PortTree → ℕ → ℕ
+every_of port out = unwrap_or (option_map (λ o. o.every) (slice_get port.outs (out - 1))) 1
+
+-- the gap between two messages of an out, from 1, of a port with this period: so many sends come in each `every` periods
+abbrev pub gap_in : PortTree → ℕ → ℕ → ℕ
+gap_in port period out = every_of port out * period / greatest_sends port out
+
+-- the messages that an out, from 1, passes on for those that come to its port: the last comes a period and all gaps but one later
+abbrev pub passed_on : PortTree → Stream → ℕ → Stream
+passed_on port stream out = record {
+  period = gap_in port stream.period out;
+  start = stream.start + stream.period + (greatest_sends port out - 1) * gap_in port stream.period out;
+}
+
+-- the period of an input, from 1
+abbrev pub input_period : GraphTree → ℕ → ℕ
+input_period g input = unwrap_or (option_map (λ i. i.period) (slice_get g.inputs (input - 1))) 0
+
+-- the messages of a feed whose chain of sources has at most so many ports
+abbrev pub stream_within : GraphTree → ℕ → Feed → Stream
+stream_within g n (feed.TheVariants.Input input) = record { period = input_period g input; start = 0 }
+stream_within g zero (feed.TheVariants.Out port out) = record { period = 0; start = 0 }
+stream_within g (suc n) (feed.TheVariants.Out port out) =
+    unwrap_or (option_map (λ p. passed_on p (stream_within g n p.feed) out) (slice_get g.ports (port - 1))) (record { period = 0; start = 0 })
+
+-- how many ports stand between the input and a feed whose chain of sources has at most so many ports
+abbrev pub distance_within : GraphTree → ℕ → Feed → ℕ
+distance_within g n (feed.TheVariants.Input input) = 0
+distance_within g zero (feed.TheVariants.Out port out) = 0
+distance_within g (suc n) (feed.TheVariants.Out port out) =
+    unwrap_or (option_map (λ p. distance_within g n p.feed + 1) (slice_get g.ports (port - 1))) 0
+
+-- the messages that come to a port: no chain of a well-formed graph has more ports than there are
+abbrev pub stream_of : GraphTree → PortTree → Stream
+stream_of g port = stream_within g (length g.ports) port.feed
+
+-- how many ports stand between the input and a port
+abbrev pub distance_of : GraphTree → PortTree → ℕ
+distance_of g port = distance_within g (length g.ports) port.feed
+
+-- the least time between two messages at a port
+abbrev pub period_of : GraphTree → PortTree → ℕ
+period_of g port = (stream_of g port).period
+
+-- the longest logical time from an input's message to a message at a port that comes of it
+abbrev pub start_of : GraphTree → PortTree → ℕ
+start_of g port = (stream_of g port).start
+
+-- the least time between two messages that a port passes on through an out, from 1
+abbrev pub gap_of : GraphTree → PortTree → ℕ → ℕ
+gap_of g port out = (passed_on port (stream_of g port) out).period
+
+-- the longest logical time from an input's message to a message of an out, from 1, that comes of it
+abbrev pub reach_of : GraphTree → PortTree → ℕ → ℕ
+reach_of g port out = (passed_on port (stream_of g port) out).start

@@ -1,0 +1,61 @@
+-- What is kept of the rates of a graph.
+use Rattle.std.specs.Prelude.{◌≡◌, ℕ, ◌-◌, ◌<◌, ◌≤◌, List, length, map, slice_get, Some}
+use Rattle.std.specs.Option.{ForSome}
+use Rattle.yt_graph.specs.declared.port.Feed as feed
+use Rattle.yt_graph.specs.declared.port.Feed.{Feed}
+use Rattle.yt_graph.specs.Picture.{PortTree, GraphTree}
+use Rattle.yt_graph.specs.Cost.{greatest_cost}
+use Rattle.yt_set.specs.declared.task.Task.{Task}
+use Rattle.yt_rates.specs.declared.stream.Stream.{Stream}
+use Rattle.yt_rates.specs.Rates.{passed_on, stream_of, distance_of, period_of}
+use Rattle.yt_rates.specs.Faults.{IsWithinRates}
+
+-- what is kept of a port: the messages that come to it, and those that its outs pass on, by place from 0
+pub record PortRates : Type 0 where
+  pub stream : Stream
+  pub outs : List Stream
+
+-- a fact about what is kept of the port with this number, from 1
+abbrev pub ForRates : List PortRates → ℕ → (PortRates → Type 0) → Type 0
+ForRates rates port P = ForSome (slice_get rates (port - 1)) P
+
+-- the messages that each out of a port passes on, by place from 0, for those that come to the port
+pub record ArePassedOn (port : PortTree) (stream : Stream) (outs : List Stream) : Type 0 where
+  pub count : length outs ≡ length port.outs
+  pub each : (out : ℕ) → 1 ≤ out → out ≤ length port.outs → slice_get outs (out - 1) ≡ Some (passed_on port stream out)
+
+-- the numbers that are kept are the port's
+pub record IsRatesOf (g : GraphTree) (port : PortTree) (kept : PortRates) : Type 0 where
+  pub stream : kept.stream ≡ stream_of g port
+  pub outs : ArePassedOn port (stream_of g port) kept.outs
+
+-- each port has its rates under its number
+pub record AreRatesOf (g : GraphTree) (rates : List PortRates) : Type 0 where
+  pub count : length rates ≡ length g.ports
+  pub each : (port : ℕ) → ForSome (slice_get g.ports (port - 1)) (λ p. ForRates rates port (IsRatesOf g p))
+
+-- a port's rates are kept, and are within their limits
+pub record IsRated (g : GraphTree) (port : PortTree) (kept : PortRates) : Type 0 where
+  pub rates : IsRatesOf g port kept
+  pub limits : IsWithinRates g port
+
+-- rates are kept of the ports that stand nearer to the input than this, and of those that stand just so far before this place
+pub record AreRated (g : GraphTree) (distance place : ℕ) (table : List PortRates) : Type 0 where
+  pub count : length table ≡ length g.ports
+  pub nearer : (k : ℕ) → ForSome (slice_get g.ports k) (λ p. distance_of g p < distance → ForSome (slice_get table k) (IsRated g p))
+  pub before : (k : ℕ) → ForSome (slice_get g.ports k) (λ p. distance_of g p ≡ distance → k < place → ForSome (slice_get table k) (IsRated g p))
+
+-- what the table and the graph's inputs say of the messages of a feed
+abbrev pub IsKnown : GraphTree → List PortRates → Feed → Stream → Type 0
+IsKnown g table (feed.TheVariants.Input input) s =
+    (1 ≤ input) × (input ≤ length g.inputs) × ForSome (slice_get g.inputs (input - 1)) (λ i. (i.period ≡ s.period) × (s.start ≡ 0))
+IsKnown g table (feed.TheVariants.Out port out) s =
+    (1 ≤ port) × (port ≤ length table) × (1 ≤ out) × ForSome (slice_get table (port - 1)) (λ kept. slice_get kept.outs (out - 1) ≡ Some s)
+
+-- the task that a port is: its greatest cost, its period and its resource
+abbrev pub task_of : GraphTree → PortTree → Task
+task_of g port = record { cost = greatest_cost port; period = period_of g port; resource = port.group }
+
+-- the tasks of a graph, by the numbers of their ports
+abbrev pub tasks_of : GraphTree → List Task
+tasks_of g = map (task_of g) g.ports

@@ -1,0 +1,62 @@
+-- A named set with one more task.
+use Rattle.std.proofs.Common.{◌≡◌, ℕ, ◌+◌, ◌<◌, ◌≤◌, ◌||◌, not, Bool, true, false, cond, IsTrue, eqb, List, [], ◌∷◌, ◌++◌, length, bytes_eq, refl, ap, ◌∙◌, arith, length-append}
+use Rattle.std.proofs.lemmas.Bool.Decides.{nat_tests}
+use Rattle.std.proofs.lemmas.List.Elements.{All-append}
+use Rattle.std.proofs.lemmas.List.Sums.{prefix_len-le-length}
+use Rattle.std.specs.List.{position_or_len}
+use Rattle.yt_set.specs.declared.task.Task.{Task}
+use Rattle.yt_set.specs.NamedTasks.{NamedTasks, IsNamed}
+use Rattle.yt_set.specs.SetText.{in_range, is_among, number_of, with_group, with_task}
+use Rattle.yt_set.specs.Tasks.{IsTask}
+use Rattle.yt_set.proofs.Hyperperiods.{all_one}
+use Rattle.yt_set.proofs.SeenLemmas.{position_less}
+
+-- the three parts fix a named set
+pub same_named : {a b : List Task} {c d e f : List (List ℕ)} → a ≡ b → c ≡ d → e ≡ f
+    → (let x : NamedTasks = record { tasks = a; labels = c; groups = e } in let y : NamedTasks = record { tasks = b; labels = d; groups = f } in x ≡ y)
+same_named {a} {b} {c} {d} {e} {f} p q r =
+    ap (λ (t : List Task). let x : NamedTasks = record { tasks = t; labels = c; groups = e } in x) p
+    ∙ ap (λ (l : List (List ℕ)). let x : NamedTasks = record { tasks = b; labels = l; groups = e } in x) q
+    ∙ ap (λ (g : List (List ℕ)). let x : NamedTasks = record { tasks = b; labels = d; groups = g } in x) r
+
+in_range_is : (n : ℕ) → IsTrue (in_range n) → (1 ≤ n) × (n ≤ 1000000)
+in_range_is n h = grind (arith, nat_tests)
+
+-- the names of resources grow by one at most, and do not get fewer
+record GrowsBy (groups more : List (List ℕ)) : Type 0 where
+  all : length groups ≤ length more
+  one : length more ≤ length groups + 1
+
+grows : (groups : List (List ℕ)) (group : List ℕ) → GrowsBy groups (with_group groups group)
+grows groups group = by (eqb (length group) 0 || is_among group groups)
+  where
+    by : (b : Bool) → GrowsBy groups (cond b groups (groups ++ group ∷ []))
+    by true = record { all = omega arith; one = omega arith }
+    by false = record { all = omega (arith, length-append groups (group ∷ [])); one = omega (arith, length-append groups (group ∷ [])) }
+
+-- a resource's number is among those of the names
+numbered : (groups : List (List ℕ)) (group : List ℕ) → number_of groups group ≤ length (with_group groups group)
+numbered groups group = by (eqb (length group) 0) (is_among group groups) refl
+  where
+    by : (none among : Bool) → is_among group groups ≡ among → cond none 0 (position_or_len (bytes_eq group) groups + 1) ≤ length (cond (none || among) groups (groups ++ group ∷ []))
+    by true among e = omega arith
+    by false true e = let less = position_less (bytes_eq group) groups e in omega arith
+    by false false e = let short = prefix_len-le-length (λ x. not (bytes_eq group x)) groups in omega (arith, length-append groups (group ∷ []))
+
+-- one more task in range keeps a named set named
+pub named_more : (read : NamedTasks) (name : List ℕ) (cost period : ℕ) (group : List ℕ) → IsNamed read → IsTrue (in_range cost) → IsTrue (in_range period) → length read.tasks < 64 → IsNamed (with_task read name cost period group)
+named_more read name cost period group is hc hp room =
+    let new : Task = record { cost = cost; period = period; resource = number_of read.groups group } in
+    let c = in_range_is cost hc in
+    let p = in_range_is period hp in
+    let more = grows read.groups group in
+    let count = length-append read.tasks (new ∷ []) in
+    let few = is.few in
+    record {
+      in_range = (omega arith, All-append IsTask read.tasks (new ∷ []) is.in_range.1 (all_one IsTask new (c.0, c.1, p.0, p.1)));
+      labelled = let same = is.labelled in omega (arith, length-append read.labels (name ∷ []));
+      grouped = All-append (λ t. t.resource ≤ length (with_group read.groups group)) read.tasks (new ∷ [])
+          (λ k d lt. let here = is.grouped k d lt in let all = more.all in omega arith)
+          (all_one (λ t. t.resource ≤ length (with_group read.groups group)) new (numbered read.groups group));
+      few = let one = more.one in omega arith;
+    }

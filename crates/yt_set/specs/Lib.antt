@@ -1,0 +1,8 @@
+pub mod Files
+pub mod Hyperperiod
+pub mod NamedTasks
+pub mod Printed
+pub mod Reading
+pub mod SetText
+pub mod Tasks
+pub mod Worked

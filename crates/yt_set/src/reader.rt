@@ -1,0 +1,149 @@
+//! Reads a set line by line.
+ghost use Rattle.std.specs.Prelude.{◌≡◌, ◌<◌, ◌≤◌, length, IfOk, MatchResult, Ok, Err, OnOk, IsTrue, false};
+ghost use Rattle.yt_base.specs.Lines.{fields_of};
+ghost use Rattle.yt_set.specs.Files.{after_line};
+ghost use Rattle.yt_set.specs.Reading.{IsFaultAt, with_new};
+ghost use Rattle.yt_set.specs.SetText.{in_range, is_among, judged, no_tasks, number_of, with_group};
+
+use crate::lines::is_skipped;
+use crate::named::NamedSet;
+use crate::read::{LineFault, SetFault};
+use crate::seen::Seen;
+use crate::set::{MOST_TASKS, TaskSet};
+use crate::task::Task;
+use crate::task_line::{NewTask, TaskLine, ticks};
+use std::alloc::{AllocError, Global};
+use std::marker::Model;
+
+/// What the lines so far say. A contract sees the tasks, their names, and the names of resources in order of first use.
+#[derive(Drop)]
+pub(crate) struct Reader<'a> {
+    tasks: Vec<Task>,
+    labels: Seen<'a>,
+    groups: Seen<'a>,
+}
+
+impl<'a> Model for Reader<'a> {
+    ghost use Rattle.yt_set.specs.NamedTasks.{NamedTasks, IsNamed};
+
+    ghost Value = { NamedTasks };
+
+    ghost view = { λ r. record { tasks = r.tasks.items; labels = r.labels; groups = r.groups } };
+
+    ghost invariant = { λ r. IsNamed (record { tasks = r.tasks.items; labels = r.labels; groups = r.groups }) };
+}
+
+impl<'a> Reader<'a> {
+    /// No line yet.
+    pub(crate) fn new(alloc: Global) -> Self
+        ensures { result ≡ no_tasks }
+    {
+        Reader {
+            tasks: Vec::new(alloc),
+            labels: Seen::new(alloc),
+            groups: Seen::new(alloc),
+        }
+    }
+
+    /// Reads the line of a number, without its line feed.
+    pub(crate) fn read_line(self, number: u32, line: &'a [u8]) -> Result<Self, SetFault>
+        ensures { MatchResult result
+            (λ read. after_line judged self.entry line.now ≡ Ok read)
+            (λ fault. IsFaultAt self.entry number line.now fault) }
+    {
+        if is_skipped(line) {
+            return Ok(self);
+        }
+        match self.judge(line) {
+            Err(fault) => Err(SetFault::Line(number, fault)),
+            Ok(task) => Ok(self.add(task)?),
+        }
+    }
+
+    /// The task that a line says, which isn't skipped, or its first fault.
+    fn judge(&self, line: &'a [u8]) -> Result<NewTask<'a>, LineFault>
+        ensures answer { MatchResult result
+            (λ task. judged self.now (fields_of line.now) ≡ Ok (with_new self.now task))
+            (λ fault. judged self.now (fields_of line.now) ≡ Err fault) }
+        ensures cost { IfOk result (λ task. IsTrue (in_range task.cost)) }
+        ensures period { IfOk result (λ task. IsTrue (in_range task.period)) }
+        ensures other { IfOk result (λ task. is_among task.name.now self.now.labels ≡ false) }
+        ensures room { IfOk result (λ task. length self.now.tasks < 64) }
+    {
+        let Some(texts) = TaskLine::new(line) else {
+            return Err(LineFault::Form);
+        };
+        let cost = ticks(texts.cost)?;
+        let period = ticks(texts.period)?;
+        if !texts.has_names() {
+            return Err(LineFault::Name);
+        }
+        if self.labels.contains(texts.name) {
+            return Err(LineFault::Twice);
+        }
+        let Some(cost) = cost else {
+            return Err(LineFault::Cost);
+        };
+        let Some(period) = period else {
+            return Err(LineFault::Period);
+        };
+        if self.tasks.len() == MOST_TASKS {
+            return Err(LineFault::Many);
+        }
+        Ok(NewTask {
+            name: texts.name,
+            cost,
+            period,
+            group: texts.group,
+        })
+    }
+
+    /// Adds a task behind those that are there.
+    fn add(self, task: NewTask<'a>) -> Result<Self, AllocError>
+        requires cost { IsTrue (in_range task.cost) }
+        requires period { IsTrue (in_range task.period) }
+        requires other { is_among task.name.now self.labels ≡ false }
+        requires room { length self.tasks < 64 }
+        ensures { IfOk result (λ read. read ≡ with_new self.entry task.entry) }
+    {
+        let Reader {
+            mut tasks,
+            mut labels,
+            mut groups,
+        } = self;
+        let resource = number_of(&mut groups, task.group)?;
+        labels.see(task.name)?;
+        tasks.push(Task {
+            cost: task.cost,
+            period: task.period,
+            resource,
+        })?;
+        Ok(Reader {
+            tasks,
+            labels,
+            groups,
+        })
+    }
+
+    /// The set that all lines say.
+    pub(crate) fn finish(self, alloc: Global) -> Result<NamedSet, AllocError>
+        ensures { IfOk result (λ named. named ≡ self.entry) }
+    {
+        let labels = self.labels.to_names(alloc)?;
+        let groups = self.groups.to_names(alloc)?;
+        Ok(NamedSet::new(TaskSet::of(self.tasks), labels, groups))
+    }
+}
+
+/// The number of a resource by its name, from 1 in order of first use; 0 where the name is empty.
+fn number_of<'a>(groups: &mut Seen<'a>, group: &'a [u8]) -> Result<u32, AllocError>
+    requires { length groups.old < 64 }
+    ensures number { IfOk result (λ number. number ≡ number_of groups.old group.now) }
+    ensures groups { OnOk result (groups.new ≡ with_group groups.old group.now) }
+{
+    if group.is_empty() {
+        return Ok(0);
+    }
+    let place = groups.see(group)?;
+    Ok(place as u32 + 1)
+}

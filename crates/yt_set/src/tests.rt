@@ -1,0 +1,160 @@
+use super::*;
+use std::alloc::Global;
+use std::test::Fail;
+use yt_base::Line;
+
+/// The fault of a text, cut off where it is long; `None` where it says a set.
+fn fault(alloc: Global, text: &[u8]) -> Result<Option<(u32, LineFault)>, Fail> {
+    match read_set(alloc, &text[..text.len().min(10_000)]) {
+        Ok(_) => Ok(None),
+        Err(SetFault::Line(line, fault)) => Ok(Some((line, fault))),
+        Err(SetFault::Memory) => Err("no memory".into()),
+    }
+}
+
+#[test]
+fn the_first_fault_is_told(rt: HostRuntime) -> Result<(), Fail> {
+    for (text, expected) in [
+        ("", None),
+        ("\n\r\n \t\n# x\n  #x y", None),
+        ("task A 5 10", None),
+        ("task A 5 10\r", None),
+        ("task A 5 10\r\r", Some((1, LineFault::Form))),
+        ("\ttask  A\t5 10 r \n", None),
+        ("task A 5", Some((1, LineFault::Form))),
+        ("task A 5 10 r s", Some((1, LineFault::Form))),
+        ("task A 5 10 # c", Some((1, LineFault::Form))),
+        ("Task A 5 10", Some((1, LineFault::Form))),
+        ("tasks A 5 10", Some((1, LineFault::Form))),
+        ("task A -5 10", Some((1, LineFault::Form))),
+        ("\n# c\ntask A 5 1x\ntask", Some((3, LineFault::Form))),
+        ("task A! 5 x", Some((1, LineFault::Form))),
+        ("task A! 0 10", Some((1, LineFault::Name))),
+        ("task A 5 10 r-", Some((1, LineFault::Name))),
+        ("task 0.a_Z 5 10 9", None),
+        ("task A 1 10\ntask A! 1 10", Some((2, LineFault::Name))),
+        ("task A 1 10\ntask A 0 10", Some((2, LineFault::Twice))),
+        ("task A 1 10\ntask a 1 10 A", None),
+        ("task A 0 0", Some((1, LineFault::Cost))),
+        ("task A 1 0", Some((1, LineFault::Period))),
+        ("task A 1000000 1000000", None),
+        ("task A 1000001 1", Some((1, LineFault::Cost))),
+        ("task A 1 1000001", Some((1, LineFault::Period))),
+        ("task A 18446744073709551617 1", Some((1, LineFault::Cost))),
+        (
+            "task A 1 18446744073709551617",
+            Some((1, LineFault::Period)),
+        ),
+        ("task A 000000000000000000000001 01", None),
+    ] {
+        assert_eq!(rt; fault(rt.alloc(), text.as_bytes())?, expected, "at {text}");
+    }
+    Ok(())
+}
+
+#[test]
+fn names_have_at_most_65_bytes(rt: HostRuntime) -> Result<(), Fail> {
+    let alloc = rt.alloc();
+    for (len, expected) in [(1, None), (65, None), (66, Some((1, LineFault::Name)))] {
+        let mut task = Vec::from_slice(alloc, b"task ")?;
+        let mut resource = Vec::from_slice(alloc, b"task A 1 1 ")?;
+        for _ in 0..len {
+            task.push(b'x')?;
+            resource.push(b'x')?;
+        }
+        task.extend_from_slice(b" 1 1")?;
+        assert_eq!(rt; fault(alloc, &task)?, expected, "at {len}");
+        assert_eq!(rt; fault(alloc, &resource)?, expected, "at {len}");
+    }
+    Ok(())
+}
+
+#[test]
+fn a_set_has_at_most_64_tasks(rt: HostRuntime) -> Result<(), Fail> {
+    let alloc = rt.alloc();
+    let mut text = Vec::new(alloc);
+    let mut tasks = Vec::new(alloc);
+    for n in 0..64u8 {
+        text.extend_from_slice(&[b't', b'a', b's', b'k', b' ', b'A' + n % 8, b'A' + n / 8])?;
+        text.extend_from_slice(b" 1 1\n")?;
+        tasks.push(Task {
+            cost: 1,
+            period: 1,
+            resource: 0,
+        })?;
+    }
+    assert_eq!(rt; fault(alloc, &text)?, None);
+    text.extend_from_slice(b"task X 1 1")?;
+    assert_eq!(rt; fault(alloc, &text)?, Some((65, LineFault::Many)));
+    let more = tasks.clone()?;
+    assert!(rt; TaskSet::new(tasks).is_ok());
+    let mut tasks = more;
+    tasks.push(Task {
+        cost: 1,
+        period: 1,
+        resource: 0,
+    })?;
+    match TaskSet::new(tasks) {
+        Ok(_) => Err("65 tasks are a set".into()),
+        Err(list) => {
+            assert_eq!(rt; list.len(), 65);
+            Ok(())
+        }
+    }
+}
+
+#[test]
+fn tasks_are_in_range(rt: HostRuntime) -> Result<(), Fail> {
+    for (cost, period, expected) in [
+        (0, 1, false),
+        (1, 0, false),
+        (1, 1, true),
+        (1_000_000, 1_000_000, true),
+        (1_000_001, 1, false),
+        (1, 1_000_001, false),
+    ] {
+        let mut tasks = Vec::new(rt.alloc());
+        tasks.push(Task {
+            cost,
+            period,
+            resource: 1,
+        })?;
+        assert_eq!(rt; TaskSet::new(tasks).is_ok(), expected, "at {cost} {period}");
+    }
+    Ok(())
+}
+
+#[test]
+#[tactic(auto, using(crate::proofs::UserLemmas::has_user))]
+fn sets_are_read(rt: HostRuntime) -> Result<(), Fail> {
+    let text = b"task A 1 9 r\n\ntask B.o 5 20 s_2\r\n# task\n task C 2 6 r\ntask D 1 7";
+    let named = match read_set(rt.alloc(), text.as_slice()) {
+        Ok(named) => named,
+        Err(_) => return Err("no set".into()),
+    };
+    let set = named.set();
+    let mut read = String::new(rt.alloc());
+    for n in 0..set.len() {
+        let task = set.task(n + 1);
+        let mut line = Line::new();
+        let label = named.label(n + 1);
+        let group = if task.resource == 0 {
+            b"".as_slice()
+        } else {
+            named.group(task.resource)
+        };
+        if label.len() <= 65 && group.len() <= 65 && group.is_empty() == (task.resource == 0) {
+            put_task(&mut line, label, task, group);
+        }
+        read.push_str(std::str::from_utf8(line.bytes()).unwrap_or("no text"))?;
+        read.push('\n')?;
+    }
+    assert_eq!(rt;
+        read.as_str(),
+        "task A 1 9 r\ntask B.o 5 20 s_2\ntask C 2 6 r\ntask D 1 7\n"
+    );
+    for (resource, least) in [(0, None), (1, Some(6)), (2, Some(20)), (3, None)] {
+        assert_eq!(rt; set.floor(resource), least, "at {resource}");
+    }
+    Ok(())
+}

@@ -1,0 +1,57 @@
+-- The patterns that show that a set doesn't fit, and what each stands for.
+use Rattle.std.specs.Prelude.{◌≡◌, ℕ, ◌+◌, ◌-◌, ◌<◌, ◌≤◌, List, length, Option, Some, None}
+use Rattle.yt_set.specs.declared.task.Task.{Task}
+use Rattle.yt_set.specs.Tasks.{FitsLoad, within, floor_of, demand_bound, hyperperiod}
+use Rattle.yt_fits.specs.declared.unfit.Unfit.{Unfit}
+use Rattle.yt_fits.specs.declared.unfit.Unfit.TheVariants.{Hyperperiod, Overload, Interval}
+use Rattle.yt_log.specs.declared.plan.PlanItem.{PlanItem}
+use Rattle.yt_log.specs.Tasks.{task_of}
+use Rattle.yt_log.specs.Patterns.{Arrivals, all_tasks, blocker, pattern_plan}
+use Rattle.yt_witness.specs.declared.arrivals.Arrivals as told
+use Rattle.yt_witness.specs.declared.pattern.Pattern.{Pattern}
+use Rattle.yt_witness.specs.declared.pattern.Pattern.TheVariants.{All, Blocker}
+
+-- the pattern of a reason: the overload's has the hyperperiod, the interval's its task and its length
+abbrev pub pattern_of : Unfit → Option Pattern
+pattern_of (Hyperperiod task) = None
+pattern_of (Overload sum) = Some (All sum.whole)
+pattern_of (Interval breach) = Some (Blocker breach.task breach.len)
+
+-- the reason is that the hyperperiod is too great
+abbrev pub IsWide : Unfit → Type 0
+IsWide (Hyperperiod task) = Unit {0}
+IsWide (Overload sum) = ⊥
+IsWide (Interval breach) = ⊥
+
+-- in a span of so many ticks, a job of the task that keeps its resource leaves too little room for others
+pub record Blocks (tasks : List Task) (i span : ℕ) : Type 0 where
+  pub positive : 1 ≤ i
+  pub in_set : i ≤ length tasks
+  pub floor : ℕ
+  pub least : floor_of tasks (task_of tasks i).resource ≡ Some floor
+  pub above : floor < span
+  pub below : span < within (task_of tasks i)
+  pub over : span < (task_of tasks i).cost + demand_bound tasks (span - 1)
+
+-- the pattern is one of the set's: that of all tasks has the hyperperiod, and the load doesn't fit; that of a blocker has a span in which its task leaves too little room
+abbrev pub IsPatternOf : List Task → Pattern → Type 0
+IsPatternOf tasks (All upto) = (upto ≡ hyperperiod tasks) × (FitsLoad tasks → ⊥)
+IsPatternOf tasks (Blocker task upto) = Blocks tasks task upto
+
+-- what a pattern stands for: the arrivals of each task, in order of the tasks
+abbrev pub arrivals_of : List Task → Pattern → List Arrivals
+arrivals_of tasks (All upto) = all_tasks tasks upto
+arrivals_of tasks (Blocker task upto) = blocker tasks task upto
+
+-- the plan of a pattern: all these jobs, in order of arrival and then of task
+abbrev pub plan_of : List Task → Pattern → List PlanItem
+plan_of tasks pattern = pattern_plan (arrivals_of tasks pattern)
+
+-- the tick by which a pattern's plan misses a deadline
+abbrev pub horizon : Pattern → ℕ
+horizon (All upto) = upto
+horizon (Blocker task upto) = upto
+
+-- arrivals as the program has them, as patterns have them
+abbrev pub as_arrivals : told.Arrivals → Arrivals
+as_arrivals a = record { first = a.first; step = a.step; count = a.count; cost = a.cost }

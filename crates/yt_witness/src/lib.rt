@@ -1,0 +1,16 @@
+//! Arrivals that show that a set of tasks doesn't fit.
+//!
+//! For a reason that a set doesn't fit, [`witness`] gives a pattern: arrivals with which every lawful, work-conserving and
+//! exclusive schedule misses a deadline. [`arrive`] tells them task by task, without memory. This crate may not know of text,
+//! graphs or how an executive works. Its contract: the pattern is the reason's, its plan is legal and must miss, and the arrivals
+//! of each task are those that the plan is made of.
+#![tactic(auto)]
+
+mod arrivals;
+mod pattern;
+
+pub use arrivals::{Arrivals, arrive};
+pub use pattern::{Pattern, witness};
+
+#[cfg(test)]
+mod tests;

@@ -1,0 +1,48 @@
+//! The pattern that shows that a set doesn't fit.
+ghost use Rattle.std.specs.Prelude.{◌≡◌, ◌↔◌, None, IfSome};
+ghost use Rattle.yt_fits.specs.Unfits.{IsReason};
+ghost use Rattle.yt_log.specs.Patterns.{MustMiss};
+ghost use Rattle.yt_witness.specs.Witnesses.{IsPatternOf, IsWide, horizon, pattern_of, plan_of};
+
+use yt_fits::Unfit;
+use yt_set::TaskSet;
+
+/// Arrivals with which every lawful, work-conserving and exclusive schedule of a set misses a deadline. All jobs cost the most that
+/// their tasks may.
+#[derive(Clone, Copy, Debug, PartialEq, Eq)]
+pub enum Pattern {
+    /// Each task from tick 0 on, at its period, as often as its jobs can be due by tick `upto`, which is the hyperperiod.
+    All {
+        /// A deadline is missed by this tick.
+        upto: u128,
+    },
+    /// One task once, at tick 0; each other one from tick 1 on, at its period, as often as its jobs can be due by tick `upto`.
+    Blocker {
+        /// The task that arrives once, by its number from 1. Its job keeps its resource while the others wait.
+        task: u32,
+        /// A deadline is missed by this tick.
+        upto: u64,
+    },
+}
+
+/// The pattern that shows a reason: that of all tasks for an overload, that of a blocker for an interval. `None` comes exactly
+/// for a hyperperiod that is too great. The caller shows that the reason is what [`yt_fits::fits`] answers of the set, so that
+/// `Blocker` doesn't come yet. Takes no memory.
+pub fn witness(set: &TaskSet, why: &Unfit) -> Option<Pattern>
+    requires { IsReason set.now why.now }
+    ensures value { result ≡ pattern_of why.now }
+    ensures none { result ≡ None ↔ IsWide why.now }
+    ensures its_pattern { IfSome result (λ pattern. IsPatternOf set.now pattern) }
+    ensures misses { IfSome result (λ pattern. MustMiss set.now (plan_of set.now pattern) (horizon pattern)) }
+{
+    // Tells the proof that the set is in range.
+    prove!(set.len() <= 64);
+    match *why {
+        Unfit::Hyperperiod(_) => None,
+        Unfit::Overload(sum) => Some(Pattern::All { upto: sum.whole }),
+        Unfit::Interval(breach) => Some(Pattern::Blocker {
+            task: breach.task,
+            upto: breach.len,
+        }),
+    }
+}
