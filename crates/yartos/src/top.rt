@@ -73,4 +73,8 @@ mod edges;
 #[cfg(test)]
 mod handlers;
 #[cfg(test)]
+mod rates;
+#[cfg(test)]
+mod sets;
+#[cfg(test)]
 mod tests;

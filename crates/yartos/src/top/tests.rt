@@ -145,8 +145,7 @@ fn words_of_no_listed_form_are_misuse(rt: HostRuntime) -> Result<(), Fail> {
 
 #[test]
 fn words_that_wait_are_answered_without_files(rt: HostRuntime) -> Result<(), Fail> {
-    let lists: [&'static [&'static str]; 4] = [
-        &["set", "u"],
+    let lists: [&'static [&'static str]; 3] = [
         &["play", "u", "u"],
         &["replay", "u"],
         &["demo", "16"],
@@ -202,8 +201,8 @@ fn graphs_are_judged_in_order(rt: HostRuntime) -> Result<(), Fail> {
         (form, "process", Status::Graph, "graph syntax 1 8\n"),
         (form, "process !", Status::Graph, "graph lex 1 9 bad\n"),
         (form, CALL, Status::NotYet, "notyet\n"),
-        (tasks, BLINK, Status::NotYet, "notyet\n"),
-        (check_graph, BLINK, Status::NotYet, "notyet\n"),
+        (tasks, BLINK, Status::Done, "task p.a 5 10\n"),
+        (check_graph, BLINK, Status::Done, "accepted 1 5/10\n"),
         (stop, BLINK, Status::NotYet, "notyet\n"),
         (check_graph, CALL, Status::NotYet, "notyet\n"),
         (
@@ -285,7 +284,7 @@ fn faults_are_told(rt: HostRuntime) -> Result<(), Fail> {
         Case {
             words: &["check", "g"],
             failing_write: (1, 6),
-            ..Case::run(BLINK, "", Status::WriteFault, "notyet")
+            ..Case::run(BLINK, "", Status::WriteFault, "accept")
         },
         Case {
             words: &["help"],
