@@ -4,15 +4,11 @@ pub mod FirstLoop
 pub mod FirstPieces
 pub mod FirstSums
 pub mod FirstTexts
-pub mod LoadVerdicts
 pub mod ResolvedCalls
 pub mod RunLemmas
 pub mod RunVerdicts
 pub mod SentLemmas
-pub mod SetLabels
-pub mod ShownTasks
 pub mod StageLemmas
-pub mod TaskLines
 pub mod TopLemmas
 pub mod TraceLines
 pub mod TraceNumbers

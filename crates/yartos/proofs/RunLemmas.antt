@@ -1,7 +1,7 @@
 -- What is due to a run, from what the parts of the graph and the trace are.
-use Rattle.std.proofs.Common.{◌≡◌, ℕ, ◌+◌, ◌*◌, ◌<◌, ◌≤◌, true, false, List, [], ◌∷◌, length, None, refl, sym, ap, subst, ◌∙◌, ⊎_elim, eqb, not, nat_le, arith}
+use Rattle.std.proofs.Common.{◌≡◌, ℕ, ◌+◌, ◌*◌, ◌<◌, ◌≤◌, true, false, List, [], ◌∷◌, length, None, refl, sym, ap, subst, ◌∙◌, inr, ⊎_elim, eqb, not, nat_le, arith}
 use Rattle.std.proofs.lemmas.Bool.{cases_Bool, both_ways, eqb-true, and_parts, and_from}
-use Rattle.std.specs.Prelude.{IsTrue, ◌&&◌}
+use Rattle.std.specs.Prelude.{IsTrue, codes, ◌&&◌}
 use Rattle.std.specs.List.{list_all}
 use Rattle.yt_graph.specs.Picture.{GraphTree}
 use Rattle.yt_graph.specs.Cost.{greatest_cost}
@@ -19,9 +19,8 @@ use Rattle.yt_run.specs.Told.{IsPromisedRun}
 use Rattle.yt_run.proofs.Alone.{overload_legal, overload_misses}
 use Rattle.yt_run.proofs.Pieces.{list_all-weaker}
 use Rattle.yt_run.proofs.ReadBackFirst.{HasReadableNames-first}
-use Rattle.yartos.specs.declared.status.Status.{Status}
-use Rattle.yartos.specs.NotYet.{IsNotYet}
-use Rattle.yartos.specs.RunAnswer.{IsRunDue, IsOverload, IsNoTraceText, IsRun}
+use Rattle.yartos.specs.declared.status.Status.TheVariants.{NotYet}
+use Rattle.yartos.specs.RunAnswer.{IsRunDue, IsOverload, IsRun}
 use Rattle.yt_graph.specs.Names.{begins_as_word, is_name, is_word_byte}
 use Rattle.yt_graph.specs.Reserved.{is_reserved}
 use Rattle.yartos.specs.FirstText.{IsFirstText}
@@ -55,13 +54,8 @@ fits_due d graph cost period is cost_is period_is least =
     omega arith
 
 pub no_trace_due : (graph_bytes trace_bytes : List ℕ) (d : First) (param : List ℕ) → IsFirstText graph_bytes d param → FitsFirst (graph_of d) →
-    ((messages : List Message) → IsTraceText trace_bytes d.input messages → ⊥) → IsNoTraceText graph_bytes trace_bytes
-no_trace_due graph_bytes trace_bytes d param spelled fits none = record { parts = d; param = param; spelled = spelled; fits = fits; none = none }
-
--- a trace of another form is answered so
-pub not_yet_run : (graph_bytes trace_bytes : List ℕ) (s : Status) (text : List ℕ) → IsNoTraceText graph_bytes trace_bytes → IsNotYet s text → IsRunDue graph_bytes trace_bytes s text
-not_yet_run graph_bytes trace_bytes s text none due =
-    subst (λ x. IsRunDue graph_bytes trace_bytes x text) (sym due.0) (none, due.1)
+    ((messages : List Message) → IsTraceText trace_bytes d.input messages → ⊥) → IsRunDue graph_bytes trace_bytes NotYet (codes "notyet\n")
+no_trace_due graph_bytes trace_bytes d param spelled fits none = (inr (record { parts = d; param = param; spelled = spelled; fits = fits; none = none }), refl)
 
 -- a byte of a word is none that is no such byte
 word_byte_is_not : (c b : ℕ) → is_word_byte c ≡ false → is_word_byte b ≡ true → is_not c b ≡ true

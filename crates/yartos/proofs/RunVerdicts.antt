@@ -1,5 +1,5 @@
 -- What is due to a run is one status.
-use Rattle.std.proofs.Common.{◌≡◌, ℕ, ◌<◌, ◌≤◌, List, Option, Some, None, refl, sym, ap, subst, ◌∙◌, arith}
+use Rattle.std.proofs.Common.{◌≡◌, ℕ, ◌<◌, ◌≤◌, List, Option, Some, None, refl, sym, ap, subst, ◌∙◌, ⊎_elim, arith}
 use Rattle.yt_graph.specs.Cost.{greatest_cost}
 use Rattle.yt_run.specs.declared.trace.Message.{Message}
 use Rattle.yt_run.specs.First.{First, graph_of, FitsFirst}
@@ -8,7 +8,7 @@ use Rattle.yartos.specs.declared.status.Status.{Status}
 use Rattle.yartos.specs.declared.status.Status.TheVariants.{Done, Usage, Graph, Overload, Trace, ReadFault, WriteFault, Missed, NoMemory, Long, NotYet}
 use Rattle.yartos.specs.declared.trace.fault.TraceFault.{TraceFault}
 use Rattle.yartos.specs.RunAnswer.{IsRunDue}
-use Rattle.yartos.specs.RunCauses.{HasParts, IsNoFirstText, Reads, IsRunCause, over, no_trace, fault, legal}
+use Rattle.yartos.specs.RunCauses.{HasParts, Reads, IsRunCause, no_graph, over, no_trace, fault, legal}
 use Rattle.yartos.specs.TraceText.{IsTraceText, fault_in}
 use Rattle.yartos.proofs.FirstTexts.{first_text_is_one}
 use Rattle.yartos.proofs.TraceTexts.{trace_text_is_one}
@@ -17,7 +17,7 @@ pub run_cause : (graph trace text : List ℕ) (status : Status) → IsRunDue gra
 run_cause graph trace text Done h = legal (record { parts = h.parts; text = record { param = h.param; spelled = h.spelled }; fits = h.fits; messages = h.messages; traced = h.traced }) h.legal
 run_cause graph trace text Overload h = over h.parts (record { param = h.param; spelled = h.spelled }) h.over
 run_cause graph trace text Trace h = fault (record { parts = h.parts; text = record { param = h.param; spelled = h.spelled }; fits = h.fits; messages = h.messages; traced = h.traced }) h.fault h.found
-run_cause graph trace text NotYet h = no_trace (h.0).parts (record { param = (h.0).param; spelled = (h.0).spelled }) (h.0).fits (h.0).none
+run_cause graph trace text NotYet h = ⊎_elim (λ n. no_graph n) (λ n. no_trace n.parts (record { param = n.param; spelled = n.spelled }) n.fits n.none) h.0
 run_cause graph trace text Usage h = absurd h
 run_cause graph trace text Graph h = absurd h
 run_cause graph trace text ReadFault h = absurd h
@@ -50,26 +50,28 @@ one_fault graph trace a b f kept found =
     cc
 
 pub one_run_status : (graph trace : List ℕ) (a b : Status) → IsRunCause graph trace a → IsRunCause graph trace b → a ≡ b
+one_run_status graph trace a b (no_graph n) (no_graph m) = refl
+one_run_status graph trace a b (no_graph n) (over d q o) = absurd (n d q.param q.spelled)
+one_run_status graph trace a b (no_graph n) (no_trace d q f m) = refl
+one_run_status graph trace a b (no_graph n) (fault r f e) = absurd (n r.parts (r.text).param (r.text).spelled)
+one_run_status graph trace a b (no_graph n) (legal r e) = absurd (n r.parts (r.text).param (r.text).spelled)
+one_run_status graph trace a b (over d q o) (no_graph m) = absurd (m d q.param q.spelled)
 one_run_status graph trace a b (over d q o) (over e p u) = refl
 one_run_status graph trace a b (over d q o) (no_trace e p f m) = absurd (not_both graph e d p q f o)
 one_run_status graph trace a b (over d q o) (fault r f e) = absurd (not_both graph r.parts d r.text q r.fits o)
 one_run_status graph trace a b (over d q o) (legal r e) = absurd (not_both graph r.parts d r.text q r.fits o)
+one_run_status graph trace a b (no_trace d q f m) (no_graph n) = refl
 one_run_status graph trace a b (no_trace d q f m) (over e p o) = absurd (not_both graph d e q p f o)
 one_run_status graph trace a b (no_trace d q f m) (no_trace e p g n) = refl
 one_run_status graph trace a b (no_trace d q f m) (fault r g e) = absurd (no_other graph trace r d q m)
 one_run_status graph trace a b (no_trace d q f m) (legal r e) = absurd (no_other graph trace r d q m)
+one_run_status graph trace a b (fault r f e) (no_graph n) = absurd (n r.parts (r.text).param (r.text).spelled)
 one_run_status graph trace a b (fault r f e) (over d q o) = absurd (not_both graph r.parts d r.text q r.fits o)
 one_run_status graph trace a b (fault r f e) (no_trace d q g m) = absurd (no_other graph trace r d q m)
 one_run_status graph trace a b (fault r f e) (fault s g u) = refl
 one_run_status graph trace a b (fault r f e) (legal s u) = absurd (one_fault graph trace s r f u e)
+one_run_status graph trace a b (legal r e) (no_graph n) = absurd (n r.parts (r.text).param (r.text).spelled)
 one_run_status graph trace a b (legal r e) (over d q o) = absurd (not_both graph r.parts d r.text q r.fits o)
 one_run_status graph trace a b (legal r e) (no_trace d q f m) = absurd (no_other graph trace r d q m)
 one_run_status graph trace a b (legal r e) (fault s f u) = absurd (one_fault graph trace r s f e u)
 one_run_status graph trace a b (legal r e) (legal s u) = refl
-
--- a run of a graph has the parts of its text
-pub has_parts : (graph trace : List ℕ) (s : Status) → IsRunCause graph trace s → IsNoFirstText graph → ⊥
-has_parts graph trace s (over d q o) none = none d q.param q.spelled
-has_parts graph trace s (no_trace d q f m) none = none d q.param q.spelled
-has_parts graph trace s (fault r f e) none = none r.parts (r.text).param (r.text).spelled
-has_parts graph trace s (legal r e) none = none r.parts (r.text).param (r.text).spelled

@@ -1,66 +1,46 @@
 -- What is due to the words and to the files that they name.
-use Rattle.std.specs.Prelude.{◌≡◌, ℕ, suc, false, List, [], ◌∷◌, ◌++◌, Option, codes}
+use Rattle.std.specs.Prelude.{◌≡◌, ℕ, suc, List, [], ◌∷◌, ◌++◌, Option, codes}
 use Rattle.std.specs.Fmt.{decimal}
 use Rattle.yt_graph.specs.AstPicture.{ItemTree}
-use Rattle.yt_graph.specs.Picture.{GraphTree}
 use Rattle.yt_parser.specs.CanonicalText.{canonical_text}
 use Rattle.yt_parser.specs.SamePlaces.{ReadsAs}
-use Rattle.yt_rates.specs.Tables.{tasks_of}
 use Rattle.yartos.specs.declared.words.Command.{Command}
-use Rattle.yartos.specs.declared.words.Command.TheVariants.{Form, Graph as OfGraph, Set}
-use Rattle.yartos.specs.declared.words.Question.{Question}
-use Rattle.yartos.specs.declared.words.Question.TheVariants.{Tasks, Check, Run, Stop}
 use Rattle.yartos.specs.declared.status.Status.{Status}
-use Rattle.yartos.specs.declared.status.Status.TheVariants.{Done, Usage, Graph, ReadFault, WriteFault, NoMemory, Long}
-use Rattle.yartos.specs.Calls.{has_call}
-use Rattle.yartos.specs.GraphTasks.{labels_of, named_tasks}
-use Rattle.yartos.specs.GraphText.{IsTreeOf, IsSettled, IsNameLine, IsCostLine, IsRateLine}
-use Rattle.yartos.specs.LoadAnswer.{IsDueToLoad, IsAccepted}
-use Rattle.yartos.specs.NotYet.{IsNotYet}
+use Rattle.yartos.specs.declared.status.Status.TheVariants.{Done, Usage, Graph, ReadFault, WriteFault, NoMemory, Long, NotYet}
+use Rattle.yartos.specs.GraphText.{IsTreeOf, IsRefusedText, IsNameLine, IsCostLine}
 use Rattle.yartos.specs.Reads.{AreRead, CannotRead, IsFirstLong}
 use Rattle.yartos.specs.RunAnswer.{IsRunDue}
-use Rattle.yartos.specs.RunCauses.{IsNoFirstText}
-use Rattle.yartos.specs.SetAnswer.{IsDueToSet}
-use Rattle.yartos.specs.Stages.{Stage, misnamed, costly, misrated, rated, stage_of}
-use Rattle.yartos.specs.TaskText.{tasks_text}
+use Rattle.yartos.specs.Stages.{Stage, operator, prints, misnamed, costly, unbuilt, runs, stage_of}
 use Rattle.yartos.specs.Words.{Request, misuse, later, judges, request_of}
 
--- this status with this text is due to a run of a graph on what the one other file holds: the graph is run where it has the form that is built, and is else judged by its load
-pub data IsDueToRun (graph : GraphTree) (items : List ItemTree) (trace : List ℕ) (status : Status) (text : List ℕ) : Type 0 where
-  first_graph : IsRunDue (canonical_text items) trace status text → IsDueToRun graph items trace status text
-  other_graph : IsNoFirstText (canonical_text items) → IsDueToLoad (codes "graph") (labels_of graph) (tasks_of graph) IsNotYet status text → IsDueToRun graph items trace status text
+-- the answer to what isn't built yet
+abbrev pub IsNotYet : Status → List ℕ → Type 0
+IsNotYet status text = (status ≡ NotYet) × (text ≡ codes "notyet\n")
 
--- this status with this text is due to a question about a graph whose names, costs and rates are in order, and what the other files hold
-abbrev pub IsDueToRated : Question → GraphTree → List ItemTree → List (List ℕ) → Status → List ℕ → Type 0
-IsDueToRated Tasks graph items others status text = (status ≡ Done) × (text ≡ tasks_text (named_tasks graph))
-IsDueToRated Check graph items others status text = IsDueToLoad (codes "graph") (labels_of graph) (tasks_of graph) (IsAccepted (tasks_of graph)) status text
-IsDueToRated Run graph items [] status text = ⊥
-IsDueToRated Run graph items (trace ∷ []) status text = IsDueToRun graph items trace status text
-IsDueToRated Run graph items (trace ∷ more ∷ others) status text = ⊥
-IsDueToRated Stop graph items others status text = IsDueToLoad (codes "graph") (labels_of graph) (tasks_of graph) IsNotYet status text
+-- this status with this text is due to a run of this graph, by its canonical text, on what the one other file holds
+abbrev pub IsDueToRun : List ItemTree → List (List ℕ) → Status → List ℕ → Type 0
+IsDueToRun items [] status text = ⊥
+IsDueToRun items (trace ∷ []) status text = IsRunDue (canonical_text items) trace status text
+IsDueToRun items (trace ∷ other ∷ others) status text = ⊥
 
--- this status with this text is due to a question about a graph, by where the graph stands
-abbrev pub IsDueAt : Question → Stage → List ItemTree → List (List ℕ) → Status → List ℕ → Type 0
-IsDueAt question (misnamed fault) items others status text = (status ≡ Graph) × IsNameLine text fault
-IsDueAt question (costly graph fault) items others status text = (status ≡ Graph) × IsCostLine text graph fault
-IsDueAt question (misrated graph fault) items others status text = (status ≡ Graph) × IsRateLine text graph fault
-IsDueAt question (rated graph) items others status text = IsDueToRated question graph items others status text
+-- this status with this text is due to this graph and what the other files hold, by where the command stands
+abbrev pub IsDueAt : Stage → List ItemTree → List (List ℕ) → Status → List ℕ → Type 0
+IsDueAt operator items others status text = IsNotYet status text
+IsDueAt prints items others status text = (status ≡ Done) × (text ≡ canonical_text items) × ReadsAs text items
+IsDueAt (misnamed fault) items others status text = (status ≡ Graph) × IsNameLine text fault
+IsDueAt (costly graph fault) items others status text = (status ≡ Graph) × IsCostLine text graph fault
+IsDueAt unbuilt items others status text = IsNotYet status text
+IsDueAt runs items others status text = IsDueToRun items others status text
 
--- this status with this text is the canonical text of a graph, which is read as the same graph
-abbrev pub IsForm : List ItemTree → Status → List ℕ → Type 0
-IsForm items status text = (status ≡ Done) × (text ≡ canonical_text items) × ReadsAs text items
+-- this status with this text is due to a command and what the graph's and the other files hold
+pub data IsDueToGraph (command : Command) (graph : List ℕ) (others : List (List ℕ)) (status : Status) (text : List ℕ) : Type 0 where
+  refused : status ≡ Graph → IsRefusedText graph text → IsDueToGraph command graph others status text
+  staged : (items : List ItemTree) → IsTreeOf graph items → IsDueAt (stage_of command items) items others status text → IsDueToGraph command graph others status text
 
--- this status with this text is due to a graph's text, by what is due to its tree
-pub data IsDueToGraph (graph : List ℕ) (judged : List ItemTree → Status → List ℕ → Type 0) (status : Status) (text : List ℕ) : Type 0 where
-  settled : IsSettled graph status text → IsDueToGraph graph judged status text
-  spelled : (items : List ItemTree) → IsTreeOf graph items → has_call items ≡ false → judged items status text → IsDueToGraph graph judged status text
-
--- this status with this text is due to a command and what its files hold, the graph or the set first
+-- this status with this text is due to a command and what its files hold, the graph first
 abbrev pub IsDueOf : Command → List (List ℕ) → Status → List ℕ → Type 0
 IsDueOf command [] status text = ⊥
-IsDueOf Form (graph ∷ others) status text = IsDueToGraph graph IsForm status text
-IsDueOf (OfGraph question) (graph ∷ others) status text = IsDueToGraph graph (λ items. IsDueAt question (stage_of items) items others) status text
-IsDueOf Set (set ∷ others) status text = IsDueToSet set status text
+IsDueOf command (graph ∷ others) status text = IsDueToGraph command graph others status text
 
 -- the line of a file that is too long, by its number among the files
 abbrev pub long_line : ℕ → List ℕ

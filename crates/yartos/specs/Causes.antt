@@ -1,57 +1,40 @@
 -- Why a status comes: what the words and the bytes of the files that they name are, where the shelf tells what it holds.
-use Rattle.std.specs.Prelude.{◌≡◌, ℕ, true, false, List, [], ◌∷◌, Option, Some}
+use Rattle.std.specs.Prelude.{◌≡◌, ℕ, List, [], ◌∷◌, Option, Some}
 use Rattle.yt_graph.specs.AstPicture.{ItemTree}
-use Rattle.yt_graph.specs.Picture.{GraphTree}
 use Rattle.yt_parser.specs.CanonicalText.{canonical_text}
-use Rattle.yt_rates.specs.Tables.{tasks_of}
 use Rattle.yartos.specs.declared.words.Command.{Command}
-use Rattle.yartos.specs.declared.words.Command.TheVariants.{Form, Graph as OfGraph, Set}
-use Rattle.yartos.specs.declared.words.Question.{Question}
-use Rattle.yartos.specs.declared.words.Question.TheVariants.{Tasks, Check, Run, Stop}
 use Rattle.yartos.specs.declared.status.Status.{Status}
 use Rattle.yartos.specs.declared.status.Status.TheVariants.{Done, Usage, Graph, Long, NotYet}
-use Rattle.yartos.specs.Calls.{has_call}
 use Rattle.yartos.specs.GraphText.{IsTreeOf, IsRefusedText}
-use Rattle.yartos.specs.LoadAnswer.{IsCauseInLoad, accepted_status, has_user}
 use Rattle.yartos.specs.Reads.{AreRead, IsFirstLong}
-use Rattle.yartos.specs.RunCauses.{IsNoFirstText, IsRunCause}
-use Rattle.yartos.specs.SetAnswer.{IsCauseInSet}
-use Rattle.yartos.specs.Stages.{Stage, misnamed, costly, misrated, rated, stage_of}
+use Rattle.yartos.specs.RunCauses.{IsRunCause}
+use Rattle.yartos.specs.Stages.{Stage, operator, prints, misnamed, costly, unbuilt, runs, stage_of}
 use Rattle.yartos.specs.Words.{Request, misuse, later, judges, request_of}
 
--- why a status is due to a run of a graph on what the one other file holds
-pub data IsCauseOfRun (graph : GraphTree) (items : List ItemTree) (trace : List ℕ) (status : Status) : Type 0 where
-  first_graph : IsRunCause (canonical_text items) trace status → IsCauseOfRun graph items trace status
-  other_graph : IsNoFirstText (canonical_text items) → IsCauseInLoad (tasks_of graph) (λ s. s ≡ NotYet) status → IsCauseOfRun graph items trace status
+-- why a status is due to a run of this graph on what the one other file holds
+abbrev pub IsCauseOfRun : List ItemTree → List (List ℕ) → Status → Type 0
+IsCauseOfRun items [] status = ⊥
+IsCauseOfRun items (trace ∷ []) status = IsRunCause (canonical_text items) trace status
+IsCauseOfRun items (trace ∷ other ∷ others) status = ⊥
 
--- why a status is due to a question about a graph whose names, costs and rates are in order, and what the other files hold
-abbrev pub IsCauseInRated : Question → GraphTree → List ItemTree → List (List ℕ) → Status → Type 0
-IsCauseInRated Tasks graph items others status = status ≡ Done
-IsCauseInRated Check graph items others status = IsCauseInLoad (tasks_of graph) (λ s. s ≡ accepted_status (has_user (tasks_of graph))) status
-IsCauseInRated Run graph items [] status = ⊥
-IsCauseInRated Run graph items (trace ∷ []) status = IsCauseOfRun graph items trace status
-IsCauseInRated Run graph items (trace ∷ more ∷ others) status = ⊥
-IsCauseInRated Stop graph items others status = IsCauseInLoad (tasks_of graph) (λ s. s ≡ NotYet) status
+-- why a status is due to this graph and what the other files hold, by where the command stands
+abbrev pub IsCauseAt : Stage → List ItemTree → List (List ℕ) → Status → Type 0
+IsCauseAt operator items others status = status ≡ NotYet
+IsCauseAt prints items others status = status ≡ Done
+IsCauseAt (misnamed fault) items others status = status ≡ Graph
+IsCauseAt (costly graph fault) items others status = status ≡ Graph
+IsCauseAt unbuilt items others status = status ≡ NotYet
+IsCauseAt runs items others status = IsCauseOfRun items others status
 
--- why a status is due to a question about a graph, by where the graph stands
-abbrev pub IsCauseAt : Question → Stage → List ItemTree → List (List ℕ) → Status → Type 0
-IsCauseAt question (misnamed fault) items others status = status ≡ Graph
-IsCauseAt question (costly graph fault) items others status = status ≡ Graph
-IsCauseAt question (misrated graph fault) items others status = status ≡ Graph
-IsCauseAt question (rated graph) items others status = IsCauseInRated question graph items others status
+-- why a status is due to a command and what the graph's and the other files hold
+pub data IsCauseInGraph (command : Command) (graph : List ℕ) (others : List (List ℕ)) (status : Status) : Type 0 where
+  refused : (text : List ℕ) → status ≡ Graph → IsRefusedText graph text → IsCauseInGraph command graph others status
+  staged : (items : List ItemTree) → IsTreeOf graph items → IsCauseAt (stage_of command items) items others status → IsCauseInGraph command graph others status
 
--- why a status is due to a graph's text, by why it is due to its tree
-pub data IsCauseInGraph (graph : List ℕ) (judged : List ItemTree → Status → Type 0) (status : Status) : Type 0 where
-  refused : (text : List ℕ) → status ≡ Graph → IsRefusedText graph text → IsCauseInGraph graph judged status
-  calls_operator : (items : List ItemTree) → IsTreeOf graph items → has_call items ≡ true → status ≡ NotYet → IsCauseInGraph graph judged status
-  spelled : (items : List ItemTree) → IsTreeOf graph items → has_call items ≡ false → judged items status → IsCauseInGraph graph judged status
-
--- why a status is due to a command and what its files hold, the graph or the set first
+-- why a status is due to a command and what its files hold, the graph first
 abbrev pub IsCauseOf : Command → List (List ℕ) → Status → Type 0
 IsCauseOf command [] status = ⊥
-IsCauseOf Form (graph ∷ others) status = IsCauseInGraph graph (λ items s. s ≡ Done) status
-IsCauseOf (OfGraph question) (graph ∷ others) status = IsCauseInGraph graph (λ items. IsCauseAt question (stage_of items) items others) status
-IsCauseOf Set (set ∷ others) status = IsCauseInSet set status
+IsCauseOf command (graph ∷ others) status = IsCauseInGraph command graph others status
 
 -- why a status is due to a command and the files that it names
 pub data IsCauseInFiles (held : List ℕ → Option (List ℕ)) (command : Command) (names : List (List ℕ)) (status : Status) : Type 0 where

@@ -5,17 +5,12 @@ pub mod Code
 pub mod FirstParts
 pub mod FirstReading
 pub mod FirstText
-pub mod GraphTasks
 pub mod GraphText
-pub mod LoadAnswer
-pub mod NotYet
 pub mod OverloadText
 pub mod Reads
 pub mod RunAnswer
 pub mod RunCauses
-pub mod SetAnswer
 pub mod Split
 pub mod Stages
-pub mod TaskText
 pub mod TraceText
 pub mod Words

@@ -6,7 +6,11 @@ use Rattle.yt_graph.specs.Cost.{greatest_cost}
 use Rattle.yt_run.specs.Serial.{the_port, period_of}
 use Rattle.yt_run.specs.RunText.{label_of}
 use Rattle.yt_run.specs.Pattern.{Arrivals, all_tasks}
-use Rattle.yartos.specs.TaskText.{arrive_line}
+
+-- `arrive PORT FIRST STEP COUNT COST`
+abbrev pub arrive_line : List ℕ → Arrivals → List ℕ
+arrive_line label a =
+    codes "arrive " ++ (label ++ (32 ∷ decimal a.first ++ (32 ∷ decimal a.step ++ (32 ∷ decimal a.count ++ (32 ∷ decimal a.cost ++ 10 ∷ [])))))
 
 abbrev pub arrive_lines : GraphTree → List Arrivals → List ℕ
 arrive_lines graph [] = []

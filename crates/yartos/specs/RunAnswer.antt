@@ -1,5 +1,5 @@
 -- What is due to a run of a graph on a trace, by their texts.
-use Rattle.std.specs.Prelude.{◌≡◌, ℕ, ◌<◌, List, Some, None, codes}
+use Rattle.std.specs.Prelude.{◌≡◌, ◌⊎◌, ℕ, ◌<◌, List, Some, None, codes}
 use Rattle.yt_graph.specs.Cost.{greatest_cost}
 use Rattle.yt_run.specs.declared.trace.Message.{Message}
 use Rattle.yt_run.specs.declared.told.OutLine.{OutLine}
@@ -9,6 +9,7 @@ use Rattle.yt_run.specs.Told.{IsPromisedRun}
 use Rattle.yt_run.specs.RunText.{run_text, read_back}
 use Rattle.yt_run.specs.First.{First, graph_of, FitsFirst}
 use Rattle.yt_run.specs.Pattern.{all_tasks, pattern_plan, MustMiss}
+use Rattle.yartos.specs.RunCauses.{IsNoFirstText}
 use Rattle.yartos.specs.FirstText.{IsFirstText}
 use Rattle.yartos.specs.OverloadText.{overload_text}
 use Rattle.yartos.specs.TraceText.{IsTraceText, fault_in, fault_text}
@@ -60,12 +61,12 @@ pub record IsNoTraceText (graph trace : List ℕ) : Type 0 where
   pub fits : FitsFirst (graph_of parts)
   pub none : (messages : List Message) → IsTraceText trace parts.input messages → ⊥
 
--- this status with this text is due to a run of a graph of the form that is built on a trace
+-- this status with this text is due to a run of a graph on a trace
 abbrev pub IsRunDue : List ℕ → List ℕ → Status → List ℕ → Type 0
 IsRunDue graph trace Done text = IsRun graph trace text
 IsRunDue graph trace Overload text = IsOverload graph text
 IsRunDue graph trace Trace text = IsTraceFault graph trace text
-IsRunDue graph trace NotYet text = IsNoTraceText graph trace × (text ≡ codes "notyet\n")
+IsRunDue graph trace NotYet text = (IsNoFirstText graph ⊎ IsNoTraceText graph trace) × (text ≡ codes "notyet\n")
 IsRunDue graph trace Usage text = ⊥
 IsRunDue graph trace Graph text = ⊥
 IsRunDue graph trace ReadFault text = ⊥

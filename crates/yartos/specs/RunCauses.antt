@@ -29,6 +29,7 @@ IsNoFirstText graph = (parts : First) (param : List ℕ) → IsFirstText graph p
 
 -- why a status is due to the texts of a graph and a trace
 pub data IsRunCause (graph trace : List ℕ) : Status → Type 0 where
+  no_graph : IsNoFirstText graph → IsRunCause graph trace NotYet
   over : (parts : First) → HasParts graph parts → period_of (graph_of parts) < greatest_cost (the_port (graph_of parts)) → IsRunCause graph trace Overload
   no_trace : (parts : First) → HasParts graph parts → FitsFirst (graph_of parts) → ((messages : List Message) → IsTraceText trace parts.input messages → ⊥) → IsRunCause graph trace NotYet
   fault : (r : Reads graph trace) (f : TraceFault) → fault_in r.parts.period r.messages ≡ Some f → IsRunCause graph trace Trace

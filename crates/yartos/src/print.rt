@@ -3,8 +3,7 @@ ghost use Rattle.std.specs.Prelude.{◌≡◌, ◌-◌, ◌∷◌, ◌++◌, IfO
 ghost use Rattle.yt_graph.specs.Picture.{graph_tree};
 ghost use Rattle.yt_run.specs.First.{IsFirstGraph};
 ghost use Rattle.yt_run.specs.RunText.{end_line, out_line, output_name, port_label, run_text, segment_line, spaced_values};
-ghost use Rattle.yartos.specs.OverloadText.{overload_text};
-ghost use Rattle.yartos.specs.TaskText.{arrive_line};
+ghost use Rattle.yartos.specs.OverloadText.{arrive_line, overload_text};
 
 use crate::text::Text;
 use std::alloc::{AllocError, Global};

@@ -1,10 +1,7 @@
 //! What is due to a run: a status and its text.
-ghost use Rattle.std.specs.Prelude.{◌≡◌, IfOk, MatchOption};
+ghost use Rattle.std.specs.Prelude.{◌≡◌, IfOk};
 ghost use Rattle.yt_run.specs.First.{graph_of};
-ghost use Rattle.yartos.specs.FirstParts.{parts_of};
-ghost use Rattle.yartos.specs.FirstText.{IsFirstText};
 ghost use Rattle.yartos.specs.RunAnswer.{IsRunDue};
-ghost use Rattle.yartos.specs.RunCauses.{IsNoFirstText};
 ghost use Rattle.yartos.specs.TraceText.{fault_text};
 
 use crate::answer::{Answer, not_yet};
@@ -16,34 +13,14 @@ use crate::trace::{TraceFault, first_fault, read_trace};
 use std::alloc::{AllocError, Global};
 use yt_run::{first_cost, first_period, run_first};
 
-/// What is due to a run of a graph on a trace, by their texts; `None` exactly where the graph's has no form that is built.
-/// `Err` comes where memory ran out.
-pub(crate) fn judge_run(
-    alloc: Global,
-    graph: &[u8],
-    trace: &[u8],
-) -> Result<Option<Answer>, AllocError>
-    ensures { IfOk result (λ answered. MatchOption answered
-        (IsNoFirstText graph.now)
-        (λ a. IsRunDue graph.now trace.now a.status a.text)) }
+/// What is due to a run of a graph on a trace, by their texts. `Err` comes where memory ran out.
+pub(crate) fn judge_run(alloc: Global, graph: &[u8], trace: &[u8]) -> Result<Answer, AllocError>
+    ensures { IfOk result (λ a. IsRunDue graph.now trace.now a.status a.text) }
 {
-    match read_first(graph) {
-        Some(parts) => Ok(Some(run_parts(alloc, graph, &parts, trace)?)),
-        None => Ok(None),
-    }
-}
-
-/// What is due to a run of a graph of these parts on a trace. The caller shows that the parts are those of the graph's text.
-fn run_parts(
-    alloc: Global,
-    text: &[u8],
-    parts: &FirstParts<'_>,
-    trace: &[u8],
-) -> Result<Answer, AllocError>
-    requires { IsFirstText text.now (parts_of parts.now) parts.now.param.now }
-    ensures { IfOk result (λ a. IsRunDue text.now trace.now a.status a.text) }
-{
-    let graph = graph_of_parts(alloc, parts)?;
+    let Some(parts) = read_first(graph) else {
+        return not_yet(alloc);
+    };
+    let graph = graph_of_parts(alloc, &parts)?;
     if first_cost(&graph) > first_period(&graph) {
         return Ok(Answer {
             status: Status::Overload,

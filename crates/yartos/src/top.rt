@@ -73,8 +73,4 @@ mod edges;
 #[cfg(test)]
 mod handlers;
 #[cfg(test)]
-mod rates;
-#[cfg(test)]
-mod sets;
-#[cfg(test)]
 mod tests;

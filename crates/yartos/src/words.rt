@@ -6,28 +6,19 @@ ghost use Rattle.yartos.specs.Words.{is_count, is_demo_count, names_file, reques
 
 use yt_base::{Decimal, digits};
 
-/// What is asked of a graph whose names, costs and rates are in order.
-#[derive(Clone, Copy, Debug, PartialEq, Eq)]
-pub(crate) enum Question {
-    /// Its tasks.
-    Tasks,
-    /// Whether it fits.
-    Check,
-    /// Its run on a trace.
-    Run,
-    /// Its variables at a tick of a run.
-    Stop,
-}
-
-/// A command that judges files.
+/// A command that judges a graph.
 #[derive(Clone, Copy, Debug, PartialEq, Eq)]
 pub(crate) enum Command {
-    /// The canonical text of a graph.
+    /// The graph's canonical text.
     Form,
-    /// A question about a graph.
-    Graph(Question),
-    /// Whether a set of tasks fits.
-    Set,
+    /// The graph's tasks.
+    Tasks,
+    /// Whether the graph fits.
+    Check,
+    /// The run of the graph on a trace.
+    Run,
+    /// The variables of the graph at a tick of a run.
+    Stop,
 }
 
 /// What words ask for.
@@ -37,7 +28,7 @@ pub(crate) enum Request<'a> {
     Misuse,
     /// A command that isn't built yet.
     Later,
-    /// A command that judges the files of these names, the graph's or the set's first.
+    /// A command that judges the files of these names, the graph's first.
     Judges(Command, &'a [String]),
 }
 
@@ -62,10 +53,7 @@ fn request_of_command<'a>(command: &str, rest: &'a [String]) -> Request<'a>
             if command == "stop"
                 && is_file(graph.as_str())
                 && is_file(trace.as_str())
-                && is_count(tick.as_str()) => Request::Judges(
-            Command::Graph(Question::Stop),
-            &rest[..2],
-        ),
+                && is_count(tick.as_str()) => Request::Judges(Command::Stop, &rest[..2]),
         _ => Request::Misuse,
     }
 }
@@ -79,12 +67,10 @@ fn request_of_one<'a>(command: &str, word: &str, files: &'a [String]) -> Request
     if command == "form" && is_file {
         Request::Judges(Command::Form, files)
     } else if command == "tasks" && is_file {
-        Request::Judges(Command::Graph(Question::Tasks), files)
+        Request::Judges(Command::Tasks, files)
     } else if command == "check" && is_file {
-        Request::Judges(Command::Graph(Question::Check), files)
-    } else if command == "set" && is_file {
-        Request::Judges(Command::Set, files)
-    } else if command == "replay" && is_file {
+        Request::Judges(Command::Check, files)
+    } else if (command == "set" || command == "replay") && is_file {
         Request::Later
     } else if command == "demo" && is_demo_count(word) {
         Request::Later
@@ -100,7 +86,7 @@ fn request_of_two<'a>(command: &str, first: &str, second: &str, files: &'a [Stri
 {
     let are_files = is_file(first) && is_file(second);
     if command == "run" && are_files {
-        Request::Judges(Command::Graph(Question::Run), files)
+        Request::Judges(Command::Run, files)
     } else if command == "play" && are_files {
         Request::Later
     } else {
@@ -168,29 +154,20 @@ mod tests {
     /// Lines of words with one space between them: a word may be empty.
     const LINES: [(&str, Asked); 45] = [
         ("form g", Asked::Judges(Command::Form, 1)),
-        ("tasks g", Asked::Judges(Command::Graph(Question::Tasks), 1)),
-        ("check g", Asked::Judges(Command::Graph(Question::Check), 1)),
-        ("run g t", Asked::Judges(Command::Graph(Question::Run), 2)),
-        (
-            "stop g t 7",
-            Asked::Judges(Command::Graph(Question::Stop), 2),
-        ),
-        (
-            "stop g t 12345678",
-            Asked::Judges(Command::Graph(Question::Stop), 2),
-        ),
-        (
-            "stop g t 00000000",
-            Asked::Judges(Command::Graph(Question::Stop), 2),
-        ),
-        ("set s", Asked::Judges(Command::Set, 1)),
+        ("tasks g", Asked::Judges(Command::Tasks, 1)),
+        ("check g", Asked::Judges(Command::Check, 1)),
+        ("run g t", Asked::Judges(Command::Run, 2)),
+        ("stop g t 7", Asked::Judges(Command::Stop, 2)),
+        ("stop g t 12345678", Asked::Judges(Command::Stop, 2)),
+        ("stop g t 00000000", Asked::Judges(Command::Stop, 2)),
+        ("set s", Asked::Later),
         ("play s p", Asked::Later),
         ("replay s", Asked::Later),
         ("demo 1", Asked::Later),
         ("demo 16", Asked::Later),
         ("demo 00000001", Asked::Later),
         ("form ", Asked::Judges(Command::Form, 1)),
-        ("run  t", Asked::Judges(Command::Graph(Question::Run), 2)),
+        ("run  t", Asked::Judges(Command::Run, 2)),
         ("", Asked::Misuse),
         ("form", Asked::Misuse),
         ("form g t", Asked::Misuse),

@@ -6,10 +6,9 @@ ghost use Rattle.yt_graph.specs.Picture.{expr_tree, graph_tree, port_tree, two};
 ghost use Rattle.yartos.specs.FirstParts.{operand_of, parts_of};
 
 use crate::first::parts::{FirstParts, Operand};
-use crate::name::name;
 use std::alloc::{AllocError, Global};
 use yt_graph::{Expr, Feed, Graph, Input, Op2, OutHead, Output, Port, Stmt};
-use yt_list::Items;
+use yt_list::{Items, Name};
 
 /// The resolved graph of these parts. The caller shows that their numbers are in their ranges, as `read_first` promises.
 /// `Err` comes where memory runs out.
@@ -96,4 +95,11 @@ fn leaf(operand: Operand) -> Expr
         Operand::Message => Expr::Local(0),
         Operand::Number(n) => Expr::Num(n as i64),
     }
+}
+
+/// A name of its own with these bytes.
+fn name(alloc: Global, bytes: &[u8]) -> Result<Name, AllocError>
+    ensures { IfOk result (λ name. name ≡ bytes.now) }
+{
+    Ok(Items::from_vec(bytes.to_vec(alloc)?))
 }
