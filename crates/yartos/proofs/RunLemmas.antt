@@ -1,61 +1,70 @@
--- What is due to a run, from what the parts of the graph and the trace are.
-use Rattle.std.proofs.Common.{◌≡◌, ℕ, ◌+◌, ◌*◌, ◌<◌, ◌≤◌, true, false, List, [], ◌∷◌, length, None, refl, sym, ap, subst, ◌∙◌, inr, ⊎_elim, eqb, not, nat_le, arith}
+-- What is due to a run, from what the graph and the trace are.
+use Rattle.std.proofs.Common.{◌≡◌, ℕ, ◌+◌, ◌*◌, ◌/◌, ◌<◌, ◌≤◌, true, false, List, [], ◌∷◌, length, slice_get, Option, Some, refl, sym, ap, subst, ◌∙◌, ⊎_elim, eqb, not, nat_le, arith}
+use Rattle.std.proofs.Math.Nat.{div-mul_cancel, le_of_mul-le-mul_right}
 use Rattle.std.proofs.lemmas.Bool.{cases_Bool, both_ways, eqb-true, and_parts, and_from}
-use Rattle.std.specs.Prelude.{IsTrue, codes, ◌&&◌}
-use Rattle.std.specs.List.{list_all}
-use Rattle.yt_graph.specs.Picture.{GraphTree}
+use Rattle.std.proofs.lemmas.List.Elements.{All-head}
+use Rattle.std.proofs.lemmas.List.Sums.{sum_by-cons}
+use Rattle.std.specs.Prelude.{IsTrue, ◌&&◌}
+use Rattle.std.specs.Int.{◌∣◌}
+use Rattle.std.specs.List.{All, list_all, sum_by}
+use Rattle.std.specs.Option.{option_map, unwrap_or}
+use Rattle.yt_graph.specs.declared.graph.Input.{Input}
 use Rattle.yt_graph.specs.Cost.{greatest_cost}
-use Rattle.yt_run.specs.declared.trace.Message.{Message}
-use Rattle.yt_run.specs.declared.told.OutLine.{OutLine}
-use Rattle.yt_run.specs.Alone.{items_from}
-use Rattle.yt_run.specs.First.{First, graph_of, FitsFirst}
-use Rattle.yt_run.specs.Pattern.{all_tasks, pattern_plan, MustMiss}
-use Rattle.yt_run.specs.Plan.{Item, IsLegal}
+use Rattle.yt_graph.specs.Names.{begins_as_word, is_name, is_word_byte}
+use Rattle.yt_graph.specs.AstPicture.{ItemTree}
+use Rattle.yt_graph.specs.Picture.{GraphTree, PortTree}
+use Rattle.yt_graph.specs.Reserved.{is_reserved}
+use Rattle.yt_graph.specs.WellFormed.{IsFineInput, IsFineOutput, IsFinePort, IsWellFormed}
+use Rattle.yt_rates.specs.Rates.{input_period}
+use Rattle.yt_rates.specs.Tables.{task_of, tasks_of}
+use Rattle.yt_run.specs.First.{First, graph_of, port_of, FitsFirst, IsFirstGraph, IsInRange, the_period}
 use Rattle.yt_run.specs.Readable.{is_not, stays_in_word, HasReadableNames}
-use Rattle.yt_run.specs.RunText.{run_text, read_back}
-use Rattle.yt_run.specs.Serial.{the_port, period_of, task_set}
-use Rattle.yt_run.specs.Ticks.{Ticks, Misses}
-use Rattle.yt_run.specs.Told.{IsPromisedRun}
-use Rattle.yt_run.proofs.Alone.{overload_legal, overload_misses}
+use Rattle.yt_run.specs.declared.trace.Message.{Message}
 use Rattle.yt_run.proofs.Pieces.{list_all-weaker}
 use Rattle.yt_run.proofs.ReadBackFirst.{HasReadableNames-first}
-use Rattle.yartos.specs.declared.status.Status.TheVariants.{NotYet}
-use Rattle.yartos.specs.RunAnswer.{IsRunDue, IsOverload, IsRun}
-use Rattle.yt_graph.specs.Names.{begins_as_word, is_name, is_word_byte}
-use Rattle.yt_graph.specs.Reserved.{is_reserved}
-use Rattle.yartos.specs.FirstText.{IsFirstText}
-use Rattle.yartos.specs.OverloadText.{overload_text}
-use Rattle.yartos.specs.TraceText.{IsTraceText, fault_in}
+use Rattle.yt_set.specs.declared.task.Task.{Task}
+use Rattle.yt_set.specs.Tasks.{FitsLoad, hyperperiod, load}
+use Rattle.yt_set.proofs.Hyperperiods.{all_first, all_one, least_from}
+use Rattle.yartos.specs.declared.status.Status.{Status}
+use Rattle.yartos.specs.declared.status.Status.TheVariants.{Done}
+use Rattle.yartos.specs.NotYet.{IsNotYet}
+use Rattle.yartos.specs.Plain.{IsRunSoFar}
+use Rattle.yartos.specs.RunAnswer.{IsNotRunYet, IsRun, IsRunDue, Reads, input_name}
+use Rattle.yartos.specs.TraceText.{IsTraceText}
 
--- a graph that costs more than its period: its pattern must miss
-pub first_must_miss : (d : First) → period_of (graph_of d) < greatest_cost (the_port (graph_of d)) → MustMiss (task_set (graph_of d)) (pattern_plan (all_tasks (graph_of d))) (period_of (graph_of d))
-first_must_miss d more =
-    let cost = greatest_cost (the_port (graph_of d)) in
-    let start : 0 ≡ 0 + 0 * d.period = omega arith in
-    let plan : items_from cost 0 (0 ∷ []) ≡ pattern_plan (all_tasks (graph_of d)) = ap (λ (a : ℕ). (record { job = record { task = 1; number = 1 }; arrival = a; cost = cost }) ∷ []) start in
-    record {
-      legal = subst (λ (p : List Item). IsLegal (task_set (graph_of d)) p) plan (overload_legal cost d.period (omega arith));
-      misses = λ log long lawful conserving exclusive. subst (λ (p : List Item). Misses (task_set (graph_of d)) p log d.period) plan (overload_misses cost d.period more log);
-    }
+-- one task whose load fits costs no more than its period
+one_fits : (t : Task) → 1 ≤ t.period → FitsLoad (t ∷ []) → t.cost ≤ t.period
+one_fits t pos fits =
+    let h = hyperperiod (t ∷ []) in
+    let times : ℕ = h / t.period in
+    let is = least_from 1 (t ∷ []) (omega arith) (all_one (λ t. 1 ≤ t.period) t pos) in
+    let whole : times * t.period ≡ h = div-mul_cancel t.period (all_first (λ t. t.period ∣ h) t [] is.common) in
+    let some : 0 < times = grind (arith, whole, is.positive) in
+    let cost : load (t ∷ []) h ≡ t.cost * times + 0 = sum_by-cons (λ (t : Task). t.cost * (h / t.period)) t [] in
+    let turned : t.period * times ≡ times * t.period = omega arith in
+    let less : t.cost * times ≤ t.period * times = omega (arith, cost, whole, turned, fits) in
+    le_of_mul-le-mul_right less some
 
-pub overload_due : (bytes text : List ℕ) (d : First) (param : List ℕ) (graph : GraphTree) (cost period : ℕ) → IsFirstText bytes d param → graph ≡ graph_of d →
-    cost ≡ greatest_cost (the_port graph) → period ≡ period_of graph → period < cost → text ≡ overload_text graph → IsOverload bytes text
-overload_due bytes text d param graph cost period spelled is cost_is period_is more printed =
-    let cost_here : cost ≡ greatest_cost (the_port (graph_of d)) = cost_is ∙ ap (λ g. greatest_cost (the_port g)) is in
-    let period_here : period ≡ period_of (graph_of d) = period_is ∙ ap period_of is in
-    let here : period_of (graph_of d) < greatest_cost (the_port (graph_of d)) = omega arith in
-    record { parts = d; param = param; spelled = spelled; over = here; printed = printed ∙ ap overload_text is; must_miss = first_must_miss d here }
+-- the greatest cost of the handler is within its period
+fits_parts : (d : First) → IsInRange d → FitsLoad (tasks_of (graph_of d)) → FitsFirst (graph_of d)
+fits_parts d range fits = one_fits (task_of (graph_of d) (port_of d)) range.some fits
 
--- the greatest cost is within the period
-pub fits_due : (d : First) (graph : GraphTree) (cost period : ℕ) → graph ≡ graph_of d → cost ≡ greatest_cost (the_port graph) → period ≡ period_of graph → cost ≤ period → FitsFirst (graph_of d)
-fits_due d graph cost period is cost_is period_is least =
-    let cost_here : cost ≡ greatest_cost (the_port (graph_of d)) = cost_is ∙ ap (λ g. greatest_cost (the_port g)) is in
-    let period_here : period ≡ period_of (graph_of d) = period_is ∙ ap period_of is in
-    omega arith
+pub fits_first : (g : GraphTree) → IsFirstGraph g → FitsLoad (tasks_of g) → FitsFirst g
+fits_first g (d, range, is) fits = subst FitsFirst (sym is) (fits_parts d range (subst (λ (g : GraphTree). FitsLoad (tasks_of g)) is fits))
 
-pub no_trace_due : (graph_bytes trace_bytes : List ℕ) (d : First) (param : List ℕ) → IsFirstText graph_bytes d param → FitsFirst (graph_of d) →
-    ((messages : List Message) → IsTraceText trace_bytes d.input messages → ⊥) → IsRunDue graph_bytes trace_bytes NotYet (codes "notyet\n")
-no_trace_due graph_bytes trace_bytes d param spelled fits none = (inr (record { parts = d; param = param; spelled = spelled; fits = fits; none = none }), refl)
+-- the input's name and period
+pub name_by : (g : GraphTree) (i : Input) → slice_get g.inputs 0 ≡ Some i → input_name g ≡ i.name
+name_by g i at = ap (λ (o : Option Input). unwrap_or (option_map (λ (i : Input). i.name) o) []) at
+
+pub period_by : (g : GraphTree) (i : Input) → IsFirstGraph g → slice_get g.inputs 0 ≡ Some i → the_period g ≡ i.period
+period_by g i (d, range, is) at =
+    subst (λ (g : GraphTree). the_period g ≡ input_period g 1) (sym is) refl
+    ∙ ap (λ (o : Option Input). unwrap_or (option_map (λ (i : Input). i.period) o) 0) at
+
+pub named_input : (g : GraphTree) → IsFirstGraph g → IsWellFormed g → IsTrue (is_name (input_name g))
+named_input g (d, range, is) fine =
+    let inputs = subst (λ (g : GraphTree). All IsFineInput g.inputs) is fine.each_input in
+    subst (λ (g : GraphTree). IsTrue (is_name (input_name g))) (sym is) (All-head IsFineInput _ [] inputs).0
 
 -- a byte of a word is none that is no such byte
 word_byte_is_not : (c b : ℕ) → is_word_byte c ≡ false → is_word_byte b ≡ true → is_not c b ≡ true
@@ -72,31 +81,29 @@ name_is_word word h =
     let bytes = and_parts (list_all is_word_byte word) (nat_le (length word) 32 && not (is_reserved word)) parts.1 in
     list_all-weaker is_word_byte stays_in_word (λ b w. and_from (is_not 32 b) (is_not 10 b) (word_byte_is_not 32 b refl w) (word_byte_is_not 10 b refl w)) word bytes.0
 
-pub readable_names : (bytes : List ℕ) (d : First) (param : List ℕ) (graph : GraphTree) → IsFirstText bytes d param → graph ≡ graph_of d → HasReadableNames graph
-readable_names bytes d param graph spelled is =
-    subst HasReadableNames (sym is) (HasReadableNames-first d (record {
-      process = name_is_word d.process spelled.process;
-      port = name_is_word d.port spelled.port;
-      output = name_is_word d.output spelled.output;
-    }))
+-- the names that a run shows can be read back
+readable_parts : (d : First) → IsWellFormed (graph_of d) → HasReadableNames (graph_of d)
+readable_parts d fine =
+    let port = All-head (IsFinePort (graph_of d)) (port_of d) [] fine.each_port in
+    let output = All-head (IsFineOutput (graph_of d)) _ [] fine.each_output in
+    HasReadableNames-first d (record {
+      process = name_is_word d.process port.0;
+      port = name_is_word d.port port.1;
+      output = name_is_word d.output output.0;
+    })
 
-pub run_due : (graph_bytes trace_bytes text : List ℕ) (d : First) (param : List ℕ) (graph : GraphTree) (messages : List Message) (log : Ticks) (lines : List OutLine) →
-    IsFirstText graph_bytes d param → graph ≡ graph_of d → FitsFirst (graph_of d) → IsTraceText trace_bytes d.input messages → fault_in d.period messages ≡ None →
-    text ≡ run_text graph log lines → IsPromisedRun graph messages log lines → read_back graph (run_text graph log lines) ≡ record { log = log; lines = lines } → IsRun graph_bytes trace_bytes text
-run_due graph_bytes trace_bytes text d param graph messages log lines spelled is fits traced kept printed promised back =
-    let printed_here : text ≡ run_text (graph_of d) log lines = printed ∙ ap (λ g. run_text g log lines) is in
-    let back_here = subst (λ g. read_back g (run_text g log lines) ≡ record { log = log; lines = lines }) is back in
-    record {
-      parts = d;
-      param = param;
-      spelled = spelled;
-      fits = fits;
-      messages = messages;
-      traced = traced;
-      legal = kept;
-      log = log;
-      lines = lines;
-      read = ap (read_back (graph_of d)) printed_here ∙ back_here;
-      printed = printed_here;
-      promised = subst (λ g. IsPromisedRun g messages log lines) is promised;
-    }
+pub readable_names : (g : GraphTree) → IsFirstGraph g → IsWellFormed g → HasReadableNames g
+readable_names g (d, range, is) fine = subst HasReadableNames (sym is) (readable_parts d (subst IsWellFormed is fine))
+
+-- a graph or a trace of another form is answered so
+pub not_yet_run : (items : List ItemTree) (g : GraphTree) (trace : List ℕ) (s : Status) (text : List ℕ) → IsNotRunYet items g trace → IsNotYet s text → IsRunDue items g trace s text
+not_yet_run items g trace s text none due = subst (λ x. IsRunDue items g trace x text) (sym due.0) (none, due.1)
+
+-- the messages that a trace's text says of the input
+abbrev pub reads_by : (items : List ItemTree) (g : GraphTree) (trace name : List ℕ) (messages : List Message) → IsWellFormed g → IsRunSoFar items g → name ≡ input_name g → IsTraceText trace name messages → Reads items g trace
+reads_by items g trace name messages fine runs is traced =
+    record { runs = runs; named = named_input g runs.1 fine; messages = messages; traced = subst (λ (n : List ℕ). IsTraceText trace n messages) is traced }
+
+-- a run is what is due
+pub run_due : (items : List ItemTree) (g : GraphTree) (trace : List ℕ) (s : Status) (text : List ℕ) → s ≡ Done → IsRun items g trace text → IsRunDue items g trace s text
+run_due items g trace s text is run = subst (λ x. IsRunDue items g trace x text) (sym is) run

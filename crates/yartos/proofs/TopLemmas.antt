@@ -1,18 +1,31 @@
 -- The clauses of the top call, by the status.
 use Rattle.std.proofs.Common.{◌≡◌, ℕ, List, length, Option, Some, sym, subst, ◌⊎◌, ⊎_elim, refl, ◌∙◌, arith}
-use Rattle.std.specs.Prelude.{Bool, true, false, if◌then◌else◌, bytes_eq, ◌&&◌, ◌||◌, codes, [], ◌∷◌}
+use Rattle.std.specs.Prelude.{Bool, true, false, if◌then◌else◌, bytes_eq, ◌&&◌, codes, [], ◌∷◌}
 use Rattle.yt_graph.specs.AstPicture.{ItemTree}
+use Rattle.yt_graph.specs.Picture.{GraphTree}
+use Rattle.yt_fits.specs.declared.unfit.Unfit.{Unfit}
+use Rattle.yt_fits.specs.declared.unfit.Unfit.TheVariants.{Hyperperiod, Overload as Overloaded, Interval}
 use Rattle.yt_io.specs.Faults.{IsQuiet, Rose}
+use Rattle.yt_rates.specs.Tables.{tasks_of}
+use Rattle.yt_set.specs.declared.task.Task.{Task}
+use Rattle.yt_set.specs.NamedTasks.{NamedTasks}
 use Rattle.yartos.specs.declared.words.Command.{Command}
-use Rattle.yartos.specs.declared.words.Command.TheVariants.{Form, Tasks, Check, Run, Stop}
+use Rattle.yartos.specs.declared.words.Command.TheVariants.{Form, Graph as OfGraph, Set, Play}
+use Rattle.yartos.specs.declared.words.Question.{Question}
+use Rattle.yartos.specs.declared.words.Question.TheVariants.{Tasks, Check, Run, Stop}
 use Rattle.yartos.specs.declared.status.Status.{Status}
 use Rattle.yartos.specs.declared.status.Status.TheVariants.{Done, Usage, Graph, Overload, Trace, ReadFault, WriteFault, Missed, NoMemory, Long, NotYet}
-use Rattle.yt_parser.specs.CanonicalText.{canonical_text}
-use Rattle.yartos.specs.Answer.{CannotReadNamed, IfVerdict, IsVerdict, IsDueAt, IsDueToGraph, refused, staged, IsDueOf, IsDueToFiles, too_long, read, IsDueTo, OrNoMemory, OrWriteFault}
+use Rattle.yartos.specs.Answer.{CannotReadNamed, IfVerdict, IsVerdict, IsDueToPlayOf, IsDueToRun, IsDueToRated, IsDueAt, IsForm, IsDueToGraph, settled, spelled, IsDueOf, IsDueToFiles, too_long, read, IsDueTo, OrNoMemory, OrWriteFault}
 use Rattle.yartos.specs.Causes.{IsCalledFor}
+use Rattle.yartos.specs.GraphTasks.{labels_of}
+use Rattle.yartos.specs.GraphText.{refused, calls_operator}
+use Rattle.yartos.specs.LoadAnswer.{IsDueToLoad, unfit, fits, IsAccepted, unfit_status}
+use Rattle.yartos.specs.NotYet.{IsNotYet}
 use Rattle.yartos.specs.RunAnswer.{IsRunDue}
-use Rattle.yartos.specs.Stages.{Stage, operator, prints, misnamed, costly, unbuilt, runs, stage_of}
+use Rattle.yartos.specs.SetAnswer.{IsDueToSet, at_fault, read_set}
+use Rattle.yartos.specs.Stages.{Stage, misnamed, costly, misrated, rated, stage_of}
 use Rattle.yartos.specs.Words.{Request, misuse, later, judges, request_of, names_file, is_count, is_demo_count, file_count}
+use Rattle.yartos.specs.PlayAnswer.{IsDueToPlan, IsDueToPlay, kept, missed, plan_at_fault, set_at_fault, set_read}
 use Rattle.yartos.proofs.Verdicts.{calls_for, called_once, names_held}
 
 pub verdict_from : {P : Type 0} (s : Status) → P → IfVerdict s P
@@ -43,39 +56,85 @@ or_no_memory NotYet due e = e
 
 -- what is due is a verdict
 
-run_verdict : (graph trace : List ℕ) (s : Status) (text : List ℕ) → IsRunDue graph trace s text → IsVerdict s
-run_verdict graph trace Done text due = tt
-run_verdict graph trace Usage text due = tt
-run_verdict graph trace Graph text due = tt
-run_verdict graph trace Overload text due = tt
-run_verdict graph trace Trace text due = tt
-run_verdict graph trace ReadFault text due = due
-run_verdict graph trace WriteFault text due = due
-run_verdict graph trace Missed text due = tt
-run_verdict graph trace NoMemory text due = due
-run_verdict graph trace Long text due = tt
-run_verdict graph trace NotYet text due = tt
+run_verdict : (items : List ItemTree) (graph : GraphTree) (trace : List ℕ) (s : Status) (text : List ℕ) → IsRunDue items graph trace s text → IsVerdict s
+run_verdict items graph trace Done text due = tt
+run_verdict items graph trace Usage text due = tt
+run_verdict items graph trace Graph text due = tt
+run_verdict items graph trace Overload text due = tt
+run_verdict items graph trace Trace text due = tt
+run_verdict items graph trace ReadFault text due = due
+run_verdict items graph trace WriteFault text due = due
+run_verdict items graph trace Missed text due = tt
+run_verdict items graph trace NoMemory text due = due
+run_verdict items graph trace Long text due = tt
+run_verdict items graph trace NotYet text due = tt
 
 verdict_is : (s known : Status) → s ≡ known → IsVerdict known → IsVerdict s
 verdict_is s known e is = subst IsVerdict (sym e) is
 
-verdict_at : (stage : Stage) (items : List ItemTree) (others : List (List ℕ)) (s : Status) (text : List ℕ) → IsDueAt stage items others s text → IsVerdict s
-verdict_at operator items others s text h = verdict_is s NotYet h.0 tt
-verdict_at prints items others s text h = verdict_is s Done h.0 tt
-verdict_at (misnamed fault) items others s text h = verdict_is s Graph h.0 tt
-verdict_at (costly graph fault) items others s text h = verdict_is s Graph h.0 tt
-verdict_at unbuilt items others s text h = verdict_is s NotYet h.0 tt
-verdict_at runs items [] s text h = absurd h
-verdict_at runs items (trace ∷ []) s text h = run_verdict (canonical_text items) trace s text h
-verdict_at runs items (trace ∷ other ∷ others) s text h = absurd h
+unfit_verdict : (why : Unfit) → IsVerdict (unfit_status why)
+unfit_verdict (Hyperperiod task) = tt
+unfit_verdict (Overloaded sum) = tt
+unfit_verdict (Interval breach) = tt
 
-verdict_in_graph : (command : Command) (graph : List ℕ) (others : List (List ℕ)) (s : Status) (text : List ℕ) → IsDueToGraph command graph others s text → IsVerdict s
-verdict_in_graph command graph others s text (refused is line) = verdict_is s Graph is tt
-verdict_in_graph command graph others s text (staged items tree h) = verdict_at (stage_of command items) items others s text h
+verdict_in_load : (kind : List ℕ) (labels : List (List ℕ)) (tasks : List Task) (fitting : Status → List ℕ → Type 0) (s : Status) (text : List ℕ) →
+    (fitting s text → IsVerdict s) → IsDueToLoad kind labels tasks fitting s text → IsVerdict s
+verdict_in_load kind labels tasks fitting s text f (unfit why is e line) = verdict_is s (unfit_status why) e (unfit_verdict why)
+verdict_in_load kind labels tasks fitting s text f (fits narrow loads h) = f h
+
+accepted_verdict : (tasks : List Task) (s : Status) (text : List ℕ) → IsAccepted tasks s text → IsVerdict s
+accepted_verdict tasks s text h = verdict_is s Done h.0 tt
+
+verdict_of_run : (items : List ItemTree) (graph : GraphTree) (others : List (List ℕ)) (s : Status) (text : List ℕ) → IsDueToRun items graph others s text → IsVerdict s
+verdict_of_run items graph [] s text h = absurd h
+verdict_of_run items graph (trace ∷ []) s text h = run_verdict items graph trace s text h
+verdict_of_run items graph (trace ∷ more ∷ others) s text h = absurd h
+
+verdict_in_rated : (question : Question) (items : List ItemTree) (graph : GraphTree) (others : List (List ℕ)) (s : Status) (text : List ℕ) → IsDueToRated question items graph others s text → IsVerdict s
+verdict_in_rated Tasks items graph others s text h = verdict_is s Done h.0 tt
+verdict_in_rated Check items graph others s text h =
+    verdict_in_load (codes "graph") (labels_of graph) (tasks_of graph) (IsAccepted (tasks_of graph)) s text (accepted_verdict (tasks_of graph) s text) h
+verdict_in_rated Run items graph others s text h = verdict_in_load (codes "graph") (labels_of graph) (tasks_of graph) (IsDueToRun items graph others) s text (verdict_of_run items graph others s text) h
+verdict_in_rated Stop items graph others s text h = verdict_in_load (codes "graph") (labels_of graph) (tasks_of graph) IsNotYet s text (λ k. verdict_is s NotYet k.0 tt) h
+
+verdict_at : (question : Question) (items : List ItemTree) (stage : Stage) (others : List (List ℕ)) (s : Status) (text : List ℕ) → IsDueAt question items stage others s text → IsVerdict s
+verdict_at question items (misnamed fault) others s text h = verdict_is s Graph h.0 tt
+verdict_at question items (costly graph fault) others s text h = verdict_is s Graph h.0 tt
+verdict_at question items (misrated graph fault) others s text h = verdict_is s Graph h.0 tt
+verdict_at question items (rated graph) others s text h = verdict_in_rated question items graph others s text h
+
+verdict_in_graph : (graph : List ℕ) (judged : List ItemTree → Status → List ℕ → Type 0) (s : Status) (text : List ℕ) →
+    ((items : List ItemTree) → judged items s text → IsVerdict s) → IsDueToGraph graph judged s text → IsVerdict s
+verdict_in_graph graph judged s text f (settled (refused is line)) = verdict_is s Graph is tt
+verdict_in_graph graph judged s text f (settled (calls_operator items tree call h)) = verdict_is s NotYet h.0 tt
+verdict_in_graph graph judged s text f (spelled items tree none h) = f items h
+
+verdict_in_set : (set : List ℕ) (s : Status) (text : List ℕ) → IsDueToSet set s text → IsVerdict s
+verdict_in_set set s text (at_fault number fault is e line) = verdict_is s Graph e tt
+verdict_in_set set s text (read_set named is h) =
+    verdict_in_load (codes "set") named.labels named.tasks (IsAccepted named.tasks) s text (accepted_verdict named.tasks s text) h
+
+verdict_of_plan : (set : NamedTasks) (plan : List ℕ) (s : Status) (text : List ℕ) → IsDueToPlan set plan s text → IsVerdict s
+verdict_of_plan set plan s text (plan_at_fault fault is e line) = verdict_is s Trace e tt
+verdict_of_plan set plan s text (missed items is play e shown) = verdict_is s Missed e tt
+verdict_of_plan set plan s text (kept items is play e shown) = verdict_is s Done e tt
+
+verdict_in_play : (set plan : List ℕ) (s : Status) (text : List ℕ) → IsDueToPlay set plan s text → IsVerdict s
+verdict_in_play set plan s text (set_at_fault number fault is e line) = verdict_is s Graph e tt
+verdict_in_play set plan s text (set_read named is h) = verdict_of_plan named plan s text h
+
+verdict_of_play : (set : List ℕ) (others : List (List ℕ)) (s : Status) (text : List ℕ) → IsDueToPlayOf set others s text → IsVerdict s
+verdict_of_play set [] s text h = absurd h
+verdict_of_play set (plan ∷ []) s text h = verdict_in_play set plan s text h
+verdict_of_play set (plan ∷ more ∷ others) s text h = absurd h
 
 verdict_of : (command : Command) (files : List (List ℕ)) (s : Status) (text : List ℕ) → IsDueOf command files s text → IsVerdict s
 verdict_of command [] s text h = absurd h
-verdict_of command (graph ∷ others) s text h = verdict_in_graph command graph others s text h
+verdict_of Form (graph ∷ others) s text h = verdict_in_graph graph IsForm s text (λ items k. verdict_is s Done k.0 tt) h
+verdict_of (OfGraph question) (graph ∷ others) s text h =
+    verdict_in_graph graph (λ items. IsDueAt question items (stage_of items) others) s text (λ items k. verdict_at question items (stage_of items) others s text k) h
+verdict_of Set (set ∷ others) s text h = verdict_in_set set s text h
+verdict_of Play (set ∷ others) s text h = verdict_of_play set others s text h
 
 pub verdict_in_files : (told : Option (List ℕ → Option (List ℕ))) (command : Command) (names : List (List ℕ)) (s : Status) (text : List ℕ) → IsDueToFiles told command names s text → IsVerdict s
 verdict_in_files told command names s text (too_long place long is line) = verdict_is s Long is tt
@@ -104,15 +163,16 @@ request_counts [] = tt
 request_counts (command ∷ []) = tt
 request_counts (command ∷ word ∷ []) =
     judges_counts (bytes_eq command (codes "form") && names_file word) Form (word ∷ []) _ refl
-    (judges_counts (bytes_eq command (codes "tasks") && names_file word) Tasks (word ∷ []) _ refl
-    (judges_counts (bytes_eq command (codes "check") && names_file word) Check (word ∷ []) _ refl
-    (later_counts ((bytes_eq command (codes "set") || bytes_eq command (codes "replay")) && names_file word) _
-    (later_counts (bytes_eq command (codes "demo") && is_demo_count word) misuse tt))))
+    (judges_counts (bytes_eq command (codes "tasks") && names_file word) (OfGraph Tasks) (word ∷ []) _ refl
+    (judges_counts (bytes_eq command (codes "check") && names_file word) (OfGraph Check) (word ∷ []) _ refl
+    (judges_counts (bytes_eq command (codes "set") && names_file word) Set (word ∷ []) _ refl
+    (later_counts (bytes_eq command (codes "replay") && names_file word) _
+    (later_counts (bytes_eq command (codes "demo") && is_demo_count word) misuse tt)))))
 request_counts (command ∷ first ∷ second ∷ []) =
-    judges_counts (bytes_eq command (codes "run") && (names_file first && names_file second)) Run (first ∷ second ∷ []) _ refl
-    (later_counts (bytes_eq command (codes "play") && (names_file first && names_file second)) misuse tt)
+    judges_counts (bytes_eq command (codes "run") && (names_file first && names_file second)) (OfGraph Run) (first ∷ second ∷ []) _ refl
+    (judges_counts (bytes_eq command (codes "play") && (names_file first && names_file second)) Play (first ∷ second ∷ []) misuse refl tt)
 request_counts (command ∷ graph ∷ trace ∷ tick ∷ []) =
-    judges_counts (bytes_eq command (codes "stop") && (names_file graph && (names_file trace && is_count tick))) Stop (graph ∷ trace ∷ []) misuse refl tt
+    judges_counts (bytes_eq command (codes "stop") && (names_file graph && (names_file trace && is_count tick))) (OfGraph Stop) (graph ∷ trace ∷ []) misuse refl tt
 request_counts (command ∷ first ∷ second ∷ third ∷ fourth ∷ words) = tt
 
 -- what is due to a request is due to words that ask for it

@@ -6,8 +6,7 @@ use Rattle.std.proofs.lemmas.Grind.{common_steps}
 use Rattle.std.proofs.lemmas.List.Elements.{All-cons}
 use Rattle.yt_run.specs.declared.trace.Message.{Message}
 use Rattle.yt_graph.specs.Picture.{GraphTree}
-use Rattle.yt_run.specs.First.{AreFirstMessages, AreSpaced, KeepsPeriod}
-use Rattle.yt_run.specs.Serial.{period_of}
+use Rattle.yt_run.specs.First.{AreFirstMessages, AreSpaced, KeepsPeriod, the_period}
 use Rattle.yartos.specs.TraceText.{IsTraceText, one_number, messages_in, AreInRange, fault_after, fault_in}
 use Rattle.yartos.proofs.TraceTexts.{length-messages_in}
 
@@ -54,9 +53,9 @@ pub few_messages : (text input : List ℕ) (trace : List Message) → IsTraceTex
 few_messages text input trace whole = omega (arith, length-messages_in whole.pairs, ap length whole.read, whole.few)
 
 -- a trace's text with no fault keeps the period
-pub keeps_period : (graph : GraphTree) (text input : List ℕ) (trace : List Message) → IsTraceText text input trace → fault_in (period_of graph) trace ≡ None → KeepsPeriod graph trace
+pub keeps_period : (graph : GraphTree) (text input : List ℕ) (trace : List Message) → IsTraceText text input trace → fault_in (the_period graph) trace ≡ None → KeepsPeriod graph trace
 keeps_period graph text input trace whole none = record {
   messages = first_messages text input trace whole;
-  spaced = spaced (period_of graph) trace none;
+  spaced = spaced (the_period graph) trace none;
   few = few_messages text input trace whole;
 }

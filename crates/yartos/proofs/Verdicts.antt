@@ -1,47 +1,92 @@
 -- What is due to words and files is one status.
-use Rattle.std.proofs.Common.{◌≡◌, ℕ, zero, suc, ◌<◌, List, [], ◌∷◌, ◌++◌, length, Option, Some, None, refl, sym, subst, ◌∙◌, ⊎_elim, append_assoc, append-nil, arith}
-use Rattle.std.specs.Prelude.{IsSomeAnd}
+use Rattle.std.proofs.Common.{◌≡◌, ℕ, zero, suc, ◌<◌, Bool, true, false, List, [], ◌∷◌, ◌++◌, length, Option, Some, None, refl, sym, ap, subst, ◌∙◌, ⊎_elim, append_assoc, append-nil, arith}
+use Rattle.std.specs.Prelude.{IsSomeAnd, Result, Ok, Err, codes}
 use Rattle.yt_graph.specs.AstPicture.{ItemTree}
+use Rattle.yt_graph.specs.Picture.{GraphTree}
 use Rattle.yt_io.specs.Shelf.{HoldsOver}
 use Rattle.yt_lexer.specs.declared.token.Token.{Token}
 use Rattle.yt_lexer.specs.declared.token.LexFault.{LexFault}
 use Rattle.yt_lexer.specs.declared.token.LexFault.TheVariants.{BadByte, LongName, BigNumber, Memory}
 use Rattle.yt_lexer.specs.Lexes.{Lexes, IsFirstFault}
 use Rattle.yt_lexer.proofs.LexesLemmas.{lexes_once}
-use Rattle.yt_parser.specs.CanonicalText.{canonical_text}
 use Rattle.yt_parser.specs.Grammar.{Spells, IsStuckAt}
 use Rattle.yt_parser.specs.Lexemes.{Tok, toks_of}
 use Rattle.yt_parser.proofs.reading.Graph.{graph_only}
+use Rattle.yt_rates.specs.Tables.{tasks_of}
+use Rattle.yt_set.specs.declared.read.LineFault.{LineFault}
+use Rattle.yt_set.specs.NamedTasks.{NamedTasks}
+use Rattle.yt_set.specs.SetText.{set_of}
 use Rattle.yartos.specs.declared.words.Command.{Command}
+use Rattle.yartos.specs.declared.words.Command.TheVariants.{Form, Graph as OfGraph, Set, Play}
+use Rattle.yartos.specs.declared.words.Question.{Question}
+use Rattle.yartos.specs.declared.words.Question.TheVariants.{Tasks, Check, Run, Stop}
 use Rattle.yartos.specs.declared.status.Status.{Status}
+use Rattle.yartos.specs.declared.status.Status.TheVariants.{Done, NotYet}
 use Rattle.yartos.specs.Answer as due
-use Rattle.yartos.specs.Answer.{IsDueAt, IsDueToGraph, IsDueOf, IsDueToFiles, IsDueTo, CannotReadNamed}
-use Rattle.yartos.specs.Causes.{IsCauseAt, IsCauseInGraph, refused, staged, IsCauseOf, IsCauseInFiles, too_long, read, IsCalledFor}
+use Rattle.yartos.specs.Answer.{IsDueToPlayOf, IsDueToRun, IsDueToRated, IsDueAt, IsDueToGraph, IsDueOf, IsDueToFiles, IsDueTo, IsForm, CannotReadNamed}
+use Rattle.yartos.specs.Calls.{has_call}
+use Rattle.yartos.specs.Causes.{IsCauseOfPlay, IsCauseOfRun, IsCauseInRated, IsCauseAt, IsCauseInGraph, refused, calls_operator, spelled, IsCauseOf, IsCauseInFiles, too_long, read, IsCalledFor}
+use Rattle.yartos.specs.GraphTasks.{labels_of}
+use Rattle.yartos.specs.GraphText as text_is
 use Rattle.yartos.specs.GraphText.{IsTreeOf, IsRefusedText, not_lexed, not_spelled, IsLexLine}
+use Rattle.yartos.specs.LoadAnswer.{IsAccepted, IsCauseInLoad}
+use Rattle.yartos.specs.NotYet.{IsNotYet}
 use Rattle.yartos.specs.Reads.{IsRead, AreRead, CannotRead, IsFirstLong}
-use Rattle.yartos.specs.Stages.{Stage, operator, prints, misnamed, costly, unbuilt, runs, stage_of}
+use Rattle.yartos.specs.SetAnswer.{IsDueToSet, at_fault, read_set, IsCauseInSet, at_fault_cause, read_cause}
+use Rattle.yartos.specs.Stages.{Stage, misnamed, costly, misrated, rated, stage_of}
 use Rattle.yartos.specs.Words.{Request, misuse, later, judges}
+use Rattle.yartos.proofs.PlayVerdicts.{one_play, play_cause}
+use Rattle.yartos.proofs.LoadVerdicts.{load_cause, one_load}
 use Rattle.yartos.proofs.RunVerdicts.{run_cause, one_run_status}
+use Rattle.yartos.proofs.SetTexts.{one_set, set_or_fault}
 
 -- what is due has its cause
 
-cause_at : (stage : Stage) (items : List ItemTree) (others : List (List ℕ)) (s : Status) (text : List ℕ) → IsDueAt stage items others s text → IsCauseAt stage items others s
-cause_at operator items others s text h = h.0
-cause_at prints items others s text h = h.0
-cause_at (misnamed fault) items others s text h = h.0
-cause_at (costly graph fault) items others s text h = h.0
-cause_at unbuilt items others s text h = h.0
-cause_at runs items [] s text h = absurd h
-cause_at runs items (trace ∷ []) s text h = run_cause (canonical_text items) trace text s h
-cause_at runs items (trace ∷ other ∷ others) s text h = absurd h
+cause_of_run : (items : List ItemTree) (graph : GraphTree) (others : List (List ℕ)) (s : Status) (text : List ℕ) → IsDueToRun items graph others s text → IsCauseOfRun items graph others s
+cause_of_run items graph [] s text h = absurd h
+cause_of_run items graph (trace ∷ []) s text h = run_cause items graph trace text s h
+cause_of_run items graph (trace ∷ more ∷ others) s text h = absurd h
 
-cause_in_graph : (command : Command) (graph : List ℕ) (others : List (List ℕ)) (s : Status) (text : List ℕ) → IsDueToGraph command graph others s text → IsCauseInGraph command graph others s
-cause_in_graph command graph others s text (due.refused is line) = refused text is line
-cause_in_graph command graph others s text (due.staged items tree h) = staged items tree (cause_at (stage_of command items) items others s text h)
+cause_in_rated : (question : Question) (items : List ItemTree) (graph : GraphTree) (others : List (List ℕ)) (s : Status) (text : List ℕ) → IsDueToRated question items graph others s text → IsCauseInRated question items graph others s
+cause_in_rated Tasks items graph others s text h = h.0
+cause_in_rated Check items graph others s text h =
+    load_cause (codes "graph") (labels_of graph) (tasks_of graph) (IsAccepted (tasks_of graph)) (λ s. s ≡ Done) s text
+    (λ k. k.0) h
+cause_in_rated Run items graph others s text h =
+    load_cause (codes "graph") (labels_of graph) (tasks_of graph) (IsDueToRun items graph others) (IsCauseOfRun items graph others) s text (cause_of_run items graph others s text) h
+cause_in_rated Stop items graph others s text h = load_cause (codes "graph") (labels_of graph) (tasks_of graph) IsNotYet (λ s. s ≡ NotYet) s text (λ k. k.0) h
+
+cause_at : (question : Question) (items : List ItemTree) (stage : Stage) (others : List (List ℕ)) (s : Status) (text : List ℕ) → IsDueAt question items stage others s text → IsCauseAt question items stage others s
+cause_at question items (misnamed fault) others s text h = h.0
+cause_at question items (costly graph fault) others s text h = h.0
+cause_at question items (misrated graph fault) others s text h = h.0
+cause_at question items (rated graph) others s text h = cause_in_rated question items graph others s text h
+
+cause_in_graph : (graph : List ℕ) (judged : List ItemTree → Status → List ℕ → Type 0) (cause : List ItemTree → Status → Type 0) (s : Status) (text : List ℕ) →
+    ((items : List ItemTree) → judged items s text → cause items s) → IsDueToGraph graph judged s text → IsCauseInGraph graph cause s
+cause_in_graph graph judged cause s text f (due.settled (text_is.refused is line)) = refused text is line
+cause_in_graph graph judged cause s text f (due.settled (text_is.calls_operator items tree call h)) = calls_operator items tree call h.0
+cause_in_graph graph judged cause s text f (due.spelled items tree none h) = spelled items tree none (f items h)
+
+cause_in_set : (set : List ℕ) (s : Status) (text : List ℕ) → IsDueToSet set s text → IsCauseInSet set s
+cause_in_set set s text (at_fault number fault is e line) = at_fault_cause number fault is e
+cause_in_set set s text (read_set named is h) =
+    read_cause named is (load_cause (codes "set") named.labels named.tasks (IsAccepted named.tasks) (λ s. s ≡ Done) s text
+    (λ k. k.0) h)
+
+cause_of_play : (set : List ℕ) (others : List (List ℕ)) (s : Status) (text : List ℕ) → IsDueToPlayOf set others s text → IsCauseOfPlay set others s
+cause_of_play set [] s text h = absurd h
+cause_of_play set (plan ∷ []) s text h = play_cause set plan s text h
+cause_of_play set (plan ∷ more ∷ others) s text h = absurd h
 
 cause_of : (command : Command) (files : List (List ℕ)) (s : Status) (text : List ℕ) → IsDueOf command files s text → IsCauseOf command files s
 cause_of command [] s text h = absurd h
-cause_of command (graph ∷ others) s text h = cause_in_graph command graph others s text h
+cause_of Form (graph ∷ others) s text h = cause_in_graph graph IsForm (λ items s. s ≡ Done) s text (λ items k. k.0) h
+cause_of (OfGraph question) (graph ∷ others) s text h =
+    cause_in_graph graph (λ items. IsDueAt question items (stage_of items) others) (λ items. IsCauseAt question items (stage_of items) others) s text
+    (λ items k. cause_at question items (stage_of items) others s text k) h
+cause_of Set (set ∷ others) s text h = cause_in_set set s text h
+cause_of Play (set ∷ others) s text h = cause_of_play set others s text h
 
 cause_in_files : (held : List ℕ → Option (List ℕ)) (command : Command) (names : List (List ℕ)) (s : Status) (text : List ℕ) →
     IsDueToFiles (Some held) command names s text → IsCauseInFiles held command names s
@@ -85,26 +130,62 @@ not_refused graph text items (not_spelled tokens place lexed fault line) tree =
 
 -- no two causes of different statuses stand together
 
-one_at : (stage : Stage) (items : List ItemTree) (others : List (List ℕ)) (s t : Status) → IsCauseAt stage items others s → IsCauseAt stage items others t → s ≡ t
-one_at operator items others s t p q = p ∙ sym q
-one_at prints items others s t p q = p ∙ sym q
-one_at (misnamed fault) items others s t p q = p ∙ sym q
-one_at (costly graph fault) items others s t p q = p ∙ sym q
-one_at unbuilt items others s t p q = p ∙ sym q
-one_at runs items [] s t p q = absurd p
-one_at runs items (trace ∷ []) s t p q = one_run_status (canonical_text items) trace s t p q
-one_at runs items (trace ∷ other ∷ others) s t p q = absurd p
+one_run : (items : List ItemTree) (graph : GraphTree) (others : List (List ℕ)) (s t : Status) → IsCauseOfRun items graph others s → IsCauseOfRun items graph others t → s ≡ t
+one_run items graph [] s t p q = absurd p
+one_run items graph (trace ∷ []) s t p q = one_run_status items graph trace s t p q
+one_run items graph (trace ∷ more ∷ others) s t p q = absurd p
 
-one_in_graph : (command : Command) (graph : List ℕ) (others : List (List ℕ)) (s t : Status) → IsCauseInGraph command graph others s → IsCauseInGraph command graph others t → s ≡ t
-one_in_graph command graph others s t (refused text p line) (refused more q other) = p ∙ sym q
-one_in_graph command graph others s t (refused text p line) (staged items tree h) = absurd (not_refused graph text items line tree)
-one_in_graph command graph others s t (staged items tree h) (refused text p line) = absurd (not_refused graph text items line tree)
-one_in_graph command graph others s t (staged a tree h) (staged b other k) =
-    one_at (stage_of command b) b others s t (subst (λ (items : List ItemTree). IsCauseAt (stage_of command items) items others s) (one_tree graph a b tree other) h) k
+one_in_rated : (question : Question) (items : List ItemTree) (graph : GraphTree) (others : List (List ℕ)) (s t : Status) → IsCauseInRated question items graph others s → IsCauseInRated question items graph others t → s ≡ t
+one_in_rated Tasks items graph others s t p q = p ∙ sym q
+one_in_rated Check items graph others s t p q = one_load (tasks_of graph) (λ s. s ≡ Done) s t (λ h k. h ∙ sym k) p q
+one_in_rated Run items graph others s t p q = one_load (tasks_of graph) (IsCauseOfRun items graph others) s t (one_run items graph others s t) p q
+one_in_rated Stop items graph others s t p q = one_load (tasks_of graph) (λ s. s ≡ NotYet) s t (λ h k. h ∙ sym k) p q
+
+one_at : (question : Question) (items : List ItemTree) (stage : Stage) (others : List (List ℕ)) (s t : Status) → IsCauseAt question items stage others s → IsCauseAt question items stage others t → s ≡ t
+one_at question items (misnamed fault) others s t p q = p ∙ sym q
+one_at question items (costly graph fault) others s t p q = p ∙ sym q
+one_at question items (misrated graph fault) others s t p q = p ∙ sym q
+one_at question items (rated graph) others s t p q = one_in_rated question items graph others s t p q
+
+-- a graph calls an operator or none
+not_mixed : (graph : List ℕ) (a b : List ItemTree) → IsTreeOf graph a → IsTreeOf graph b → has_call a ≡ true → has_call b ≡ false → ⊥
+not_mixed graph a b h k call none =
+    let clash : ◌≡◌ {A = Bool} true false = sym call ∙ ap has_call (one_tree graph a b h k) ∙ none in
+    cc
+
+one_in_graph : (graph : List ℕ) (cause : List ItemTree → Status → Type 0) (s t : Status) → ((items : List ItemTree) → cause items s → cause items t → s ≡ t) →
+    IsCauseInGraph graph cause s → IsCauseInGraph graph cause t → s ≡ t
+one_in_graph graph cause s t one (refused text p line) (refused more q next) = p ∙ sym q
+one_in_graph graph cause s t one (refused text p line) (calls_operator items tree call q) = absurd (not_refused graph text items line tree)
+one_in_graph graph cause s t one (refused text p line) (spelled items tree none k) = absurd (not_refused graph text items line tree)
+one_in_graph graph cause s t one (calls_operator items tree call p) (refused text q line) = absurd (not_refused graph text items line tree)
+one_in_graph graph cause s t one (calls_operator a tree call p) (calls_operator b next too q) = p ∙ sym q
+one_in_graph graph cause s t one (calls_operator a tree call p) (spelled b next none k) = absurd (not_mixed graph a b tree next call none)
+one_in_graph graph cause s t one (spelled items tree none h) (refused text q line) = absurd (not_refused graph text items line tree)
+one_in_graph graph cause s t one (spelled a tree none h) (calls_operator b next call q) = absurd (not_mixed graph b a next tree call none)
+one_in_graph graph cause s t one (spelled a tree none h) (spelled b next too k) =
+    one b (subst (λ (items : List ItemTree). cause items s) (one_tree graph a b tree next) h) k
+
+one_in_set : (set : List ℕ) (s t : Status) → IsCauseInSet set s → IsCauseInSet set t → s ≡ t
+one_in_set set s t (at_fault_cause n f is p) (at_fault_cause m g too q) = p ∙ sym q
+one_in_set set s t (at_fault_cause n f is p) (read_cause named too k) = absurd (set_or_fault set named n f too is)
+one_in_set set s t (read_cause named is h) (at_fault_cause m g too q) = absurd (set_or_fault set named m g is too)
+one_in_set set s t (read_cause a is h) (read_cause b too k) =
+    let here = subst (λ (named : NamedTasks). IsCauseInLoad named.tasks (λ s. s ≡ Done) s) (one_set set a b is too) h in
+    one_load b.tasks (λ s. s ≡ Done) s t (λ x y. x ∙ sym y) here k
+
+one_of_play : (set : List ℕ) (others : List (List ℕ)) (s t : Status) → IsCauseOfPlay set others s → IsCauseOfPlay set others t → s ≡ t
+one_of_play set [] s t h k = absurd h
+one_of_play set (plan ∷ []) s t h k = one_play set plan s t h k
+one_of_play set (plan ∷ more ∷ others) s t h k = absurd h
 
 one_of : (command : Command) (files : List (List ℕ)) (s t : Status) → IsCauseOf command files s → IsCauseOf command files t → s ≡ t
 one_of command [] s t h k = absurd h
-one_of command (graph ∷ others) s t h k = one_in_graph command graph others s t h k
+one_of Form (graph ∷ others) s t h k = one_in_graph graph (λ items s. s ≡ Done) s t (λ items p q. p ∙ sym q) h k
+one_of (OfGraph question) (graph ∷ others) s t h k =
+    one_in_graph graph (λ items. IsCauseAt question items (stage_of items) others) s t (λ items p q. one_at question items (stage_of items) others s t p q) h k
+one_of Set (set ∷ others) s t h k = one_in_set set s t h k
+one_of Play (set ∷ others) s t h k = one_of_play set others s t h k
 
 pub not_over : (held : List ℕ → Option (List ℕ)) (name bytes : List ℕ) → IsRead (Some held) name bytes → HoldsOver (Some held) name 16777216 → ⊥
 not_over held name bytes is longer =

@@ -1,46 +1,72 @@
 -- What is due to the words and to the files that they name.
-use Rattle.std.specs.Prelude.{◌≡◌, ℕ, suc, List, [], ◌∷◌, ◌++◌, Option, codes}
+use Rattle.std.specs.Prelude.{◌≡◌, ℕ, suc, false, List, [], ◌∷◌, ◌++◌, Option, codes}
 use Rattle.std.specs.Fmt.{decimal}
 use Rattle.yt_graph.specs.AstPicture.{ItemTree}
+use Rattle.yt_graph.specs.Picture.{GraphTree}
 use Rattle.yt_parser.specs.CanonicalText.{canonical_text}
 use Rattle.yt_parser.specs.SamePlaces.{ReadsAs}
+use Rattle.yt_rates.specs.Tables.{tasks_of}
 use Rattle.yartos.specs.declared.words.Command.{Command}
+use Rattle.yartos.specs.declared.words.Command.TheVariants.{Form, Graph as OfGraph, Set, Play}
+use Rattle.yartos.specs.declared.words.Question.{Question}
+use Rattle.yartos.specs.declared.words.Question.TheVariants.{Tasks, Check, Run, Stop}
 use Rattle.yartos.specs.declared.status.Status.{Status}
-use Rattle.yartos.specs.declared.status.Status.TheVariants.{Done, Usage, Graph, ReadFault, WriteFault, NoMemory, Long, NotYet}
-use Rattle.yartos.specs.GraphText.{IsTreeOf, IsRefusedText, IsNameLine, IsCostLine}
+use Rattle.yartos.specs.declared.status.Status.TheVariants.{Done, Usage, Graph, ReadFault, WriteFault, NoMemory, Long}
+use Rattle.yartos.specs.Calls.{has_call}
+use Rattle.yartos.specs.GraphTasks.{labels_of, named_tasks}
+use Rattle.yartos.specs.GraphText.{IsTreeOf, IsSettled, IsNameLine, IsCostLine, IsRateLine}
+use Rattle.yartos.specs.LoadAnswer.{IsDueToLoad, IsAccepted}
+use Rattle.yartos.specs.NotYet.{IsNotYet}
+use Rattle.yartos.specs.PlayAnswer.{IsDueToPlay}
 use Rattle.yartos.specs.Reads.{AreRead, CannotRead, IsFirstLong}
 use Rattle.yartos.specs.RunAnswer.{IsRunDue}
-use Rattle.yartos.specs.Stages.{Stage, operator, prints, misnamed, costly, unbuilt, runs, stage_of}
+use Rattle.yartos.specs.SetAnswer.{IsDueToSet}
+use Rattle.yartos.specs.Stages.{Stage, misnamed, costly, misrated, rated, stage_of}
+use Rattle.yartos.specs.TaskText.{tasks_text}
 use Rattle.yartos.specs.Words.{Request, misuse, later, judges, request_of}
 
--- the answer to what isn't built yet
-abbrev pub IsNotYet : Status → List ℕ → Type 0
-IsNotYet status text = (status ≡ NotYet) × (text ≡ codes "notyet\n")
+-- this status with this text is due to a run of a graph that fits on what the one other file holds
+abbrev pub IsDueToRun : List ItemTree → GraphTree → List (List ℕ) → Status → List ℕ → Type 0
+IsDueToRun items graph [] status text = ⊥
+IsDueToRun items graph (trace ∷ []) status text = IsRunDue items graph trace status text
+IsDueToRun items graph (trace ∷ more ∷ others) status text = ⊥
 
--- this status with this text is due to a run of this graph, by its canonical text, on what the one other file holds
-abbrev pub IsDueToRun : List ItemTree → List (List ℕ) → Status → List ℕ → Type 0
-IsDueToRun items [] status text = ⊥
-IsDueToRun items (trace ∷ []) status text = IsRunDue (canonical_text items) trace status text
-IsDueToRun items (trace ∷ other ∷ others) status text = ⊥
+-- this status with this text is due to a question about a graph whose names, costs and rates are in order, and what the other files hold
+abbrev pub IsDueToRated : Question → List ItemTree → GraphTree → List (List ℕ) → Status → List ℕ → Type 0
+IsDueToRated Tasks items graph others status text = (status ≡ Done) × (text ≡ tasks_text (named_tasks graph))
+IsDueToRated Check items graph others status text = IsDueToLoad (codes "graph") (labels_of graph) (tasks_of graph) (IsAccepted (tasks_of graph)) status text
+IsDueToRated Run items graph others status text = IsDueToLoad (codes "graph") (labels_of graph) (tasks_of graph) (IsDueToRun items graph others) status text
+IsDueToRated Stop items graph others status text = IsDueToLoad (codes "graph") (labels_of graph) (tasks_of graph) IsNotYet status text
 
--- this status with this text is due to this graph and what the other files hold, by where the command stands
-abbrev pub IsDueAt : Stage → List ItemTree → List (List ℕ) → Status → List ℕ → Type 0
-IsDueAt operator items others status text = IsNotYet status text
-IsDueAt prints items others status text = (status ≡ Done) × (text ≡ canonical_text items) × ReadsAs text items
-IsDueAt (misnamed fault) items others status text = (status ≡ Graph) × IsNameLine text fault
-IsDueAt (costly graph fault) items others status text = (status ≡ Graph) × IsCostLine text graph fault
-IsDueAt unbuilt items others status text = IsNotYet status text
-IsDueAt runs items others status text = IsDueToRun items others status text
+-- this status with this text is due to a question about a graph, by its tree and by where it stands
+abbrev pub IsDueAt : Question → List ItemTree → Stage → List (List ℕ) → Status → List ℕ → Type 0
+IsDueAt question items (misnamed fault) others status text = (status ≡ Graph) × IsNameLine text fault
+IsDueAt question items (costly graph fault) others status text = (status ≡ Graph) × IsCostLine text graph fault
+IsDueAt question items (misrated graph fault) others status text = (status ≡ Graph) × IsRateLine text graph fault
+IsDueAt question items (rated graph) others status text = IsDueToRated question items graph others status text
 
--- this status with this text is due to a command and what the graph's and the other files hold
-pub data IsDueToGraph (command : Command) (graph : List ℕ) (others : List (List ℕ)) (status : Status) (text : List ℕ) : Type 0 where
-  refused : status ≡ Graph → IsRefusedText graph text → IsDueToGraph command graph others status text
-  staged : (items : List ItemTree) → IsTreeOf graph items → IsDueAt (stage_of command items) items others status text → IsDueToGraph command graph others status text
+-- this status with this text is the canonical text of a graph, which is read as the same graph
+abbrev pub IsForm : List ItemTree → Status → List ℕ → Type 0
+IsForm items status text = (status ≡ Done) × (text ≡ canonical_text items) × ReadsAs text items
 
--- this status with this text is due to a command and what its files hold, the graph first
+-- this status with this text is due to a graph's text, by what is due to its tree
+pub data IsDueToGraph (graph : List ℕ) (judged : List ItemTree → Status → List ℕ → Type 0) (status : Status) (text : List ℕ) : Type 0 where
+  settled : IsSettled graph status text → IsDueToGraph graph judged status text
+  spelled : (items : List ItemTree) → IsTreeOf graph items → has_call items ≡ false → judged items status text → IsDueToGraph graph judged status text
+
+-- this status with this text is due to a play of what the one other file holds, for a set
+abbrev pub IsDueToPlayOf : List ℕ → List (List ℕ) → Status → List ℕ → Type 0
+IsDueToPlayOf set [] status text = ⊥
+IsDueToPlayOf set (plan ∷ []) status text = IsDueToPlay set plan status text
+IsDueToPlayOf set (plan ∷ more ∷ others) status text = ⊥
+
+-- this status with this text is due to a command and what its files hold, the graph or the set first
 abbrev pub IsDueOf : Command → List (List ℕ) → Status → List ℕ → Type 0
 IsDueOf command [] status text = ⊥
-IsDueOf command (graph ∷ others) status text = IsDueToGraph command graph others status text
+IsDueOf Form (graph ∷ others) status text = IsDueToGraph graph IsForm status text
+IsDueOf (OfGraph question) (graph ∷ others) status text = IsDueToGraph graph (λ items. IsDueAt question items (stage_of items) others) status text
+IsDueOf Set (set ∷ others) status text = IsDueToSet set status text
+IsDueOf Play (set ∷ others) status text = IsDueToPlayOf set others status text
 
 -- the line of a file that is too long, by its number among the files
 abbrev pub long_line : ℕ → List ℕ

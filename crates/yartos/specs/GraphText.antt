@@ -1,5 +1,5 @@
 -- The text of a graph: its tree, or the line of its first fault.
-use Rattle.std.specs.Prelude.{◌≡◌, ℕ, ◌-◌, List, [], ◌∷◌, ◌++◌, None, slice_index_or, codes}
+use Rattle.std.specs.Prelude.{◌≡◌, ℕ, ◌-◌, true, false, List, [], ◌∷◌, ◌++◌, None, slice_index_or, codes}
 use Rattle.std.specs.Fmt.{decimal}
 use Rattle.yt_graph.specs.declared.place.Place.{Place}
 use Rattle.yt_graph.specs.declared.port.OutHead.{OutHead}
@@ -8,6 +8,8 @@ use Rattle.yt_graph.specs.AstWellFormed.{IsWritable}
 use Rattle.yt_graph.specs.Picture.{GraphTree}
 use Rattle.yt_cost.specs.declared.fault.CostFault as cost
 use Rattle.yt_cost.specs.declared.fault.CostFault.{CostFault}
+use Rattle.yt_rates.specs.declared.fault.RateFault as rate
+use Rattle.yt_rates.specs.declared.fault.RateFault.{RateFault}
 use Rattle.yt_lexer.specs.declared.token.Token.{Token}
 use Rattle.yt_lexer.specs.declared.token.LexFault as lex
 use Rattle.yt_lexer.specs.declared.token.LexFault.{LexFault}
@@ -20,9 +22,13 @@ use Rattle.yt_parser.specs.Grammar.{Spells}
 use Rattle.yt_parser.specs.Lexemes.{toks_of}
 use Rattle.yt_parser.specs.Parses.{IsSyntaxFault}
 use Rattle.yt_run.specs.RunText.{port_label}
-use Rattle.yt_run.specs.Serial.{no_port}
+use Rattle.yt_run.specs.SerialHandling.{no_port}
+use Rattle.yartos.specs.declared.status.Status.{Status}
+use Rattle.yartos.specs.declared.status.Status.TheVariants.{Graph}
 use Rattle.yartos.specs.declared.graph_text.GraphRead.{GraphRead}
-use Rattle.yartos.specs.declared.graph_text.GraphRead.TheVariants.{Tree, Refused}
+use Rattle.yartos.specs.declared.graph_text.GraphRead.TheVariants.{Tree, Settled}
+use Rattle.yartos.specs.Calls.{has_call}
+use Rattle.yartos.specs.NotYet.{IsNotYet}
 
 -- a line about a place: what comes before the line and the column, and what comes behind
 abbrev pub placed_line : List ℕ → Place → List ℕ → List ℕ
@@ -78,6 +84,13 @@ IsCostLine text graph (cost.TheVariants.Long port ticks) = text ≡ codes "graph
 IsCostLine text graph (cost.TheVariants.Sends port out) = text ≡ codes "graph sends " ++ (port_label graph port ++ (32 ∷ out_name graph port out ++ 10 ∷ []))
 IsCostLine text graph cost.TheVariants.Memory = ⊥
 
+-- the text is the line of a fault of rates, `graph rate PORT over PERIOD`, `graph rate PORT.OUT zero` or `graph rate PORT span`; want of memory has none
+abbrev pub IsRateLine : List ℕ → GraphTree → RateFault → Type 0
+IsRateLine text graph (rate.TheVariants.Over port period) = text ≡ codes "graph rate " ++ (port_label graph port ++ (codes " over " ++ (decimal period ++ 10 ∷ [])))
+IsRateLine text graph (rate.TheVariants.Zero port out) = text ≡ codes "graph rate " ++ (port_label graph port ++ (46 ∷ out_name graph port out ++ codes " zero\n"))
+IsRateLine text graph (rate.TheVariants.Span port) = text ≡ codes "graph rate " ++ (port_label graph port ++ codes " span\n")
+IsRateLine text graph rate.TheVariants.Memory = ⊥
+
 -- the tree that a graph's text spells
 pub record IsTreeOf (graph : List ℕ) (items : List ItemTree) : Type 0 where
   pub tokens : List Token
@@ -90,7 +103,12 @@ pub data IsRefusedText (graph text : List ℕ) : Type 0 where
   not_spelled : (tokens : List Token) (place : Place) → Lexes graph 0 tokens None → IsSyntaxFault graph (toks_of graph tokens) place → text ≡ syntax_line place →
       IsRefusedText graph text
 
--- what was read is the graph's tree, which can be written, or the line of its first fault
+-- a graph's text is answered without a judgement of names: it spells no tree, or its tree calls an operator, which isn't built yet
+pub data IsSettled (graph : List ℕ) (status : Status) (text : List ℕ) : Type 0 where
+  refused : status ≡ Graph → IsRefusedText graph text → IsSettled graph status text
+  calls_operator : (items : List ItemTree) → IsTreeOf graph items → has_call items ≡ true → IsNotYet status text → IsSettled graph status text
+
+-- what was read is the graph's tree, which can be written and calls no operator, or the answer to a text without such a tree
 abbrev pub IsReadOf : List ℕ → GraphRead → Type 0
-IsReadOf graph (Tree ast) = IsTreeOf graph (ast_tree ast) × IsWritable (ast_tree ast)
-IsReadOf graph (Refused line) = IsRefusedText graph line
+IsReadOf graph (Tree ast) = IsTreeOf graph (ast_tree ast) × (has_call (ast_tree ast) ≡ false) × IsWritable (ast_tree ast)
+IsReadOf graph (Settled answer) = IsSettled graph answer.status answer.text

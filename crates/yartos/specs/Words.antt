@@ -1,5 +1,5 @@
 -- The words of a command, and what they ask for.
-use Rattle.std.specs.Prelude.{ℕ, List, [], ◌∷◌, length, map, Bool, true, false, not, ◌&&◌, ◌||◌, ◌==◌, nat_lt, nat_le, String, string_bytes, if◌then◌else◌, bytes_eq, codes}
+use Rattle.std.specs.Prelude.{ℕ, ◌+◌, List, [], ◌∷◌, length, map, Bool, true, false, not, ◌&&◌, ◌==◌, nat_lt, nat_le, String, string_bytes, if◌then◌else◌, bytes_eq, codes}
 use Rattle.std.specs.List.{list_all}
 use Rattle.std.specs.declared.alloc.Global.{Global}
 use Rattle.yt_base.specs.declared.numbers.Decimal.{Decimal}
@@ -7,7 +7,9 @@ use Rattle.yt_base.specs.declared.numbers.Decimal.TheVariants.{Other, Over, Valu
 use Rattle.yt_base.specs.Digits.{digits_of_text}
 use Rattle.yt_graph.specs.Names.{is_digit}
 use Rattle.yartos.specs.declared.words.Command.{Command}
-use Rattle.yartos.specs.declared.words.Command.TheVariants.{Form, Tasks, Check, Run, Stop}
+use Rattle.yartos.specs.declared.words.Command.TheVariants.{Form, Graph, Set, Play}
+use Rattle.yartos.specs.declared.words.Question.{Question}
+use Rattle.yartos.specs.declared.words.Question.TheVariants.{Tasks, Check, Run, Stop}
 use Rattle.yartos.specs.declared.words.Request as declared
 use Rattle.yartos.specs.declared.words.Request.TheVariants.{Misuse, Later, Judges}
 
@@ -43,17 +45,18 @@ pub data Request : Type 0 where
 abbrev pub request_of : List (List ℕ) → Request
 request_of (command ∷ word ∷ []) =
     if bytes_eq command (codes "form") && names_file word then judges Form (word ∷ [])
-    else (if bytes_eq command (codes "tasks") && names_file word then judges Tasks (word ∷ [])
-    else (if bytes_eq command (codes "check") && names_file word then judges Check (word ∷ [])
-    else (if (bytes_eq command (codes "set") || bytes_eq command (codes "replay")) && names_file word then later
+    else (if bytes_eq command (codes "tasks") && names_file word then judges (Graph Tasks) (word ∷ [])
+    else (if bytes_eq command (codes "check") && names_file word then judges (Graph Check) (word ∷ [])
+    else (if bytes_eq command (codes "set") && names_file word then judges Set (word ∷ [])
+    else (if bytes_eq command (codes "replay") && names_file word then later
     else (if bytes_eq command (codes "demo") && is_demo_count word then later
-    else misuse))))
+    else misuse)))))
 request_of (command ∷ first ∷ second ∷ []) =
-    if bytes_eq command (codes "run") && (names_file first && names_file second) then judges Run (first ∷ second ∷ [])
-    else (if bytes_eq command (codes "play") && (names_file first && names_file second) then later
+    if bytes_eq command (codes "run") && (names_file first && names_file second) then judges (Graph Run) (first ∷ second ∷ [])
+    else (if bytes_eq command (codes "play") && (names_file first && names_file second) then judges Play (first ∷ second ∷ [])
     else misuse)
 request_of (command ∷ graph ∷ trace ∷ tick ∷ []) =
-    if bytes_eq command (codes "stop") && (names_file graph && (names_file trace && is_count tick)) then judges Stop (graph ∷ trace ∷ [])
+    if bytes_eq command (codes "stop") && (names_file graph && (names_file trace && is_count tick)) then judges (Graph Stop) (graph ∷ trace ∷ [])
     else misuse
 request_of words = misuse
 
@@ -63,13 +66,19 @@ NeedsNoFile misuse = Unit {0}
 NeedsNoFile later = Unit {0}
 NeedsNoFile (judges command names) = ⊥
 
+-- how many files a question asks for besides the graph's
+abbrev pub other_files : Question → ℕ
+other_files Tasks = 0
+other_files Check = 0
+other_files Run = 1
+other_files Stop = 1
+
 -- how many files a command judges
 abbrev pub file_count : Command → ℕ
 file_count Form = 1
-file_count Tasks = 1
-file_count Check = 1
-file_count Run = 2
-file_count Stop = 2
+file_count (Graph question) = 1 + other_files question
+file_count Set = 1
+file_count Play = 2
 
 -- the request that the code finds, with the bytes of the words
 abbrev pub request_found : declared.Request → Request

@@ -1,14 +1,13 @@
-//! What is printed of a run, and of a graph that doesn't fit.
+//! What is printed of a run.
 ghost use Rattle.std.specs.Prelude.{◌≡◌, ◌-◌, ◌∷◌, ◌++◌, IfOk, OnOk};
 ghost use Rattle.yt_graph.specs.Picture.{graph_tree};
-ghost use Rattle.yt_run.specs.First.{IsFirstGraph};
 ghost use Rattle.yt_run.specs.RunText.{end_line, out_line, output_name, port_label, run_text, segment_line, spaced_values};
-ghost use Rattle.yartos.specs.OverloadText.{arrive_line, overload_text};
 
 use crate::text::Text;
 use std::alloc::{AllocError, Global};
 use yt_graph::Graph;
-use yt_run::{OutLine, Segment, Told, first_cost, first_period};
+use yt_log::Segment;
+use yt_run::{OutLine, Told};
 
 /// The text of a run: its segments at their ends and its output lines at their times, a segment before the lines of its
 /// end, and then its end. `Err` comes where memory ran out.
@@ -70,7 +69,7 @@ fn put_values(text: &mut Text, values: &[i64]) -> Result<(), AllocError>
 }
 
 /// Adds the line of the end, by its time in ticks.
-fn put_end(text: &mut Text, time: u64) -> Result<(), AllocError>
+pub(crate) fn put_end(text: &mut Text, time: u64) -> Result<(), AllocError>
     ensures { OnOk result (text.new ≡ text.old ++ end_line time) }
 {
     text.put(b"end")?;
@@ -116,49 +115,14 @@ pub(crate) fn place_of(number: u32) -> usize
     number.saturating_sub(1) as usize
 }
 
-/// The text of a graph that doesn't fit: the load over the hyperperiod, the arrivals that show it, and their horizon. `Err`
-/// comes where memory ran out.
-pub(crate) fn overload_text(alloc: Global, graph: &Graph) -> Result<Text, AllocError>
-    requires { IsFirstGraph (graph_tree graph.now) }
-    ensures { IfOk result (λ t. t ≡ overload_text (graph_tree graph.now)) }
-{
-    let cost = first_cost(graph);
-    let period = first_period(graph);
-    let mut text = Text::new(alloc);
-    text.put(b"overload load ")?;
-    text.put_u64(cost)?;
-    text.put(b"/")?;
-    text.put_u64(period)?;
-    text.put(b"\n")?;
-    put_arrivals(&mut text, graph, period, cost)?;
-    text.put(b"horizon")?;
-    text.put_field(period)?;
-    text.put(b"\n")?;
-    Ok(text)
-}
-
-/// Adds the line of the arrivals of the first port: one job of this cost at tick 0, and a step of a period.
-fn put_arrivals(text: &mut Text, graph: &Graph, period: u64, cost: u64) -> Result<(), AllocError>
-    ensures { OnOk result (text.new ≡ text.old ++ arrive_line (port_label (graph_tree graph.now) 1) (record { first = 0; step = period; count = 1; cost = cost })) }
-{
-    text.put(b"arrive ")?;
-    put_label(text, graph, 1)?;
-    text.put_field(0)?;
-    text.put_field(period)?;
-    text.put_field(1)?;
-    text.put_field(cost)?;
-    text.put(b"\n")
-}
-
 #[cfg(test)]
 mod tests {
     use super::*;
     use std::test::Fail;
-    use yt_graph::{
-        Expr, Feed, Input, Inputs, OutHead, OutHeads, Output, Outputs, Port, Ports, Stmt, Vars,
-    };
+    use yt_graph::{Feed, Inputs, OutHeads, Output, Outputs, Port, Ports, Vars};
     use yt_list::{Name, Names, Vals};
-    use yt_run::{Job, Log, Outs};
+    use yt_log::{Job, Log};
+    use yt_run::Outs;
 
     fn name(alloc: Global, bytes: &[u8]) -> Result<Name, AllocError> {
         Ok(Name::from_vec(Vec::from_slice(alloc, bytes)?))
@@ -196,41 +160,6 @@ mod tests {
             groups: Names::new(alloc),
             vars: Vars::new(alloc),
             ports: Ports::from_vec(ports),
-        })
-    }
-
-    /// A graph whose handler sends the message's number, at a cost of 3 ticks, to a period of 2.
-    fn busy_graph(alloc: Global) -> Result<Graph, AllocError>
-        ensures { IfOk result (λ g. IsFirstGraph (graph_tree g)) }
-    {
-        let input = Input {
-            name: name(alloc, b"i")?,
-            width: 1,
-            period: 2,
-        };
-        let head = OutHead {
-            name: name(alloc, b"o")?,
-            width: 1,
-            every: 1,
-        };
-        let values = vec![in alloc; Expr::Local(0)]?;
-        let body = vec![in alloc; Stmt::Send { out: 1, values }]?;
-        let port = Port {
-            process: name(alloc, b"busy")?,
-            name: name(alloc, b"go")?,
-            feed: Feed::Input(1),
-            group: 0,
-            params: 1,
-            locals: 1,
-            outs: OutHeads::from_vec(vec![in alloc; head]?),
-            body,
-        };
-        Ok(Graph {
-            inputs: Inputs::from_vec(vec![in alloc; input]?),
-            outputs: Outputs::from_vec(vec![in alloc; output(alloc, b"x", 1)?]?),
-            groups: Names::new(alloc),
-            vars: Vars::new(alloc),
-            ports: Ports::from_vec(vec![in alloc; port]?),
         })
     }
 
@@ -272,17 +201,6 @@ mod tests {
         };
         let text = run_text(alloc, &graph(alloc)?, &told)?;
         assert_eq!(rt; text.as_slice(), b"end 0\n".as_slice());
-        Ok(())
-    }
-
-    #[test]
-    fn an_overload_shows_its_arrivals(rt: HostRuntime) -> Result<(), Fail> {
-        let alloc = rt.alloc();
-        let text = overload_text(alloc, &busy_graph(alloc)?)?;
-        assert_eq!(rt;
-            text.as_slice(),
-            b"overload load 3/2\narrive busy.go 0 2 1 3\nhorizon 2\n".as_slice()
-        );
         Ok(())
     }
 }

@@ -1,7 +1,7 @@
 //! The lines of a graph's faults.
 ghost use Rattle.std.specs.Prelude.{◌≡◌, IfOk};
 ghost use Rattle.yt_graph.specs.Picture.{graph_tree};
-ghost use Rattle.yartos.specs.GraphText.{IsCostLine, IsLexLine, IsNameLine, limit_end, out_name, placed_line, syntax_line};
+ghost use Rattle.yartos.specs.GraphText.{IsCostLine, IsLexLine, IsNameLine, IsRateLine, limit_end, out_name, placed_line, syntax_line};
 
 use crate::print::{place_of, put_label};
 use crate::text::Text;
@@ -10,6 +10,7 @@ use yt_cost::CostFault;
 use yt_graph::{Graph, Place};
 use yt_lexer::LexFault;
 use yt_names::{LimitKind, NameFault};
+use yt_rates::RateFault;
 
 /// The line of a fault of tokens. `Err` comes where memory ran out, as `Memory` says.
 pub(crate) fn lex_line(alloc: Global, fault: LexFault) -> Result<Text, AllocError>
@@ -65,6 +66,34 @@ pub(crate) fn cost_line(alloc: Global, graph: &Graph, fault: CostFault) -> Resul
             line.put(b"\n")?;
         }
         CostFault::Memory => return Err(AllocError),
+    }
+    Ok(line)
+}
+
+/// The line of a fault of a graph's rates. `Err` comes where memory ran out, as `Memory` says.
+pub(crate) fn rate_line(alloc: Global, graph: &Graph, fault: RateFault) -> Result<Text, AllocError>
+    ensures { IfOk result (λ line. IsRateLine line (graph_tree graph.now) fault) }
+{
+    let mut line = Text::new(alloc);
+    line.put(b"graph rate ")?;
+    match fault {
+        RateFault::Over { port, period } => {
+            put_label(&mut line, graph, port)?;
+            line.put(b" over ")?;
+            line.put_u64(period)?;
+            line.put(b"\n")?;
+        }
+        RateFault::Zero { port, out } => {
+            put_label(&mut line, graph, port)?;
+            line.put(b".")?;
+            line.put(name_of_out(graph, port, out))?;
+            line.put(b" zero\n")?;
+        }
+        RateFault::Span { port } => {
+            put_label(&mut line, graph, port)?;
+            line.put(b" span\n")?;
+        }
+        RateFault::Memory => return Err(AllocError),
     }
     Ok(line)
 }

@@ -1,46 +1,50 @@
-//! What is due to a run: a status and its text.
+//! What is due to a run of a graph that fits: a status and its text.
 ghost use Rattle.std.specs.Prelude.{◌≡◌, IfOk};
-ghost use Rattle.yt_run.specs.First.{graph_of};
+ghost use Rattle.yt_graph.specs.AstPicture.{ast_tree};
+ghost use Rattle.yt_graph.specs.Picture.{graph_tree};
+ghost use Rattle.yt_graph.specs.WellFormed.{IsWellFormed};
+ghost use Rattle.yt_rates.specs.Tables.{tasks_of};
+ghost use Rattle.yt_set.specs.Tasks.{Fits};
 ghost use Rattle.yartos.specs.RunAnswer.{IsRunDue};
 ghost use Rattle.yartos.specs.TraceText.{fault_text};
 
 use crate::answer::{Answer, not_yet};
-use crate::first::{FirstParts, graph_of_parts, read_first};
-use crate::print::{overload_text, run_text};
+use crate::first::is_first;
+use crate::print::run_text;
 use crate::status::Status;
 use crate::text::Text;
 use crate::trace::{TraceFault, first_fault, read_trace};
 use std::alloc::{AllocError, Global};
-use yt_run::{first_cost, first_period, run_first};
+use yt_graph::{Ast, Graph};
+use yt_run::run_first;
 
-/// What is due to a run of a graph on a trace, by their texts. `Err` comes where memory ran out.
-pub(crate) fn judge_run(alloc: Global, graph: &[u8], trace: &[u8]) -> Result<Answer, AllocError>
-    ensures { IfOk result (λ a. IsRunDue graph.now trace.now a.status a.text) }
+/// What is due to a run of a graph, with its tree, on the text of a trace. The caller shows that the graph is well formed, and that its
+/// tasks fit. `Err` comes where memory ran out.
+pub(crate) fn judge_run(
+    alloc: Global,
+    ast: &Ast,
+    graph: &Graph,
+    trace: &[u8],
+) -> Result<Answer, AllocError>
+    requires well_formed { IsWellFormed (graph_tree graph.now) }
+    requires fits { Fits (tasks_of (graph_tree graph.now)) }
+    ensures { IfOk result (λ a. IsRunDue (ast_tree ast.now) (graph_tree graph.now) trace.now a.status a.text) }
 {
-    let Some(parts) = read_first(graph) else {
+    if !is_first(ast, graph) {
         return not_yet(alloc);
-    };
-    let graph = graph_of_parts(alloc, &parts)?;
-    if first_cost(&graph) > first_period(&graph) {
-        return Ok(Answer {
-            status: Status::Overload,
-            text: overload_text(alloc, &graph)?,
-        });
     }
-    let Some(messages) = read_trace(alloc, parts.input, trace)? else {
+    let input = graph.inputs.at(0);
+    let Some(messages) = read_trace(alloc, input.name.as_slice(), trace)? else {
         return not_yet(alloc);
     };
-    if let Some(fault) = first_fault(parts.period, messages.as_slice()) {
+    if let Some(fault) = first_fault(input.period, messages.as_slice()) {
         return Ok(Answer {
             status: Status::Trace,
             text: fault_text(alloc, fault)?,
         });
     }
-    let told = run_first(alloc, &graph, &messages)?;
-    Ok(Answer {
-        status: Status::Done,
-        text: run_text(alloc, &graph, &told)?,
-    })
+    let told = run_first(alloc, graph, &messages)?;
+    Ok(Answer::done(run_text(alloc, graph, &told)?))
 }
 
 /// The text of the first fault of a trace.

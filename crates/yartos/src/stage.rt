@@ -1,64 +1,72 @@
-//! Where a command stands once its graph has a tree.
+//! Where a graph stands that has a tree and calls no operator.
 ghost use Rattle.std.specs.Prelude.{◌≡◌, ◌≢◌, [], IfOk};
+ghost use Rattle.std.specs.List.{All};
 ghost use Rattle.yt_graph.specs.AstPicture.{ast_tree};
 ghost use Rattle.yt_graph.specs.AstWellFormed.{IsWritable};
 ghost use Rattle.yt_graph.specs.Picture.{graph_tree};
-ghost use Rattle.yt_names.specs.Faults.{name_faults};
-ghost use Rattle.yt_names.specs.First.{first_fault};
-ghost use Rattle.yartos.specs.Stages.{behind_names, stage_found, stage_of};
+ghost use Rattle.yt_graph.specs.WellFormed.{IsWellFormed};
+ghost use Rattle.yt_cost.specs.Codes.{AreCodesOf};
+ghost use Rattle.yt_cost.specs.Faults.{IsWithinLimits};
+ghost use Rattle.yt_rates.specs.Faults.{rate_fault};
+ghost use Rattle.yartos.specs.GraphTasks.{IsKept};
+ghost use Rattle.yartos.specs.Stages.{behind_rates, stage_found, stage_of};
 
-use crate::calls::has_call;
-use crate::words::Command;
 use std::alloc::{AllocError, Global};
-use yt_cost::{CostFault, compile};
+use yt_cost::{Codes, CostFault, compile};
+use yt_fits::Unfit;
 use yt_graph::{Ast, Graph};
 use yt_names::{NameFault, resolve};
+use yt_rates::{AcceptCause, Accepted, NotAccepted, RateFault, accept};
+use yt_set::TaskSet;
 
-/// Where a command stands once its graph has a tree.
-#[derive(Debug, Drop)]
+/// Where a graph stands that has a tree and calls no operator.
+#[derive(Drop)]
 pub(crate) enum Stage {
-    /// The graph calls an operator, which isn't built yet.
-    Operator,
-    /// The graph's canonical text is printed.
-    Prints,
-    /// The graph has this first fault of names.
+    /// It has this first fault of names.
     Misnamed(NameFault),
-    /// The resolved graph has this first fault of costs.
+    /// It is resolved, and has this first fault of costs.
     Costly(Graph, CostFault),
-    /// The command isn't built beyond the graph's costs.
-    Unbuilt,
-    /// The graph is run.
-    Runs,
+    /// It has this first fault of rates.
+    Misrated(Graph, RateFault),
+    /// Its names, costs and rates are in order, but its tasks, which are these, don't fit for this reason.
+    Unfit(Graph, Unfit, TaskSet),
+    /// It is accepted.
+    Accepted(Accepted),
 }
 
-/// Where the command stands with the graph. The caller shows that the tree can be written, as each is that `parse` gives.
-/// `Err` comes where memory ran out.
-pub(crate) fn stage_of(alloc: Global, command: Command, ast: &Ast) -> Result<Stage, AllocError>
+/// Where a graph stands. The caller shows that the tree can be written, as each is that `parse` gives. `Err` comes where memory
+/// ran out.
+pub(crate) fn stage_of(alloc: Global, ast: &Ast) -> Result<Stage, AllocError>
     requires { IsWritable (ast_tree ast.now) }
-    ensures { IfOk result (λ stage. stage_found stage ≡ stage_of command (ast_tree ast.now)) }
-{
-    if has_call(ast) {
-        return Ok(Stage::Operator);
-    }
-    match command {
-        Command::Form => Ok(Stage::Prints),
-        Command::Run => stage_behind(alloc, ast, Stage::Runs),
-        Command::Tasks | Command::Check | Command::Stop => stage_behind(alloc, ast, Stage::Unbuilt),
-    }
-}
-
-/// The first fault of the names, where there is one, or the first fault of the costs, or what comes behind them.
-fn stage_behind(alloc: Global, ast: &Ast, behind: Stage) -> Result<Stage, AllocError>
-    requires { IsWritable (ast_tree ast.now) }
-    ensures { IfOk result (λ stage. stage_found stage ≡ behind_names (stage_found behind) (ast_tree ast.now) (first_fault (name_faults (ast_tree ast.now) []))) }
+    ensures stage { IfOk result (λ stage. stage_found stage ≡ stage_of (ast_tree ast.now)) }
+    ensures kept { IfOk result IsKept }
 {
     let graph = match resolve(alloc, ast, &[]) {
         Ok(graph) => graph,
         Err(fault) => return misnamed(fault),
     };
     match compile(alloc, &graph) {
-        Ok(_) => Ok(behind),
+        Ok(codes) => rated(alloc, graph, codes),
         Err(fault) => costly(graph, fault),
+    }
+}
+
+/// Where a graph stands whose names and costs are in order. The caller shows that it is well formed, and that the codes are
+/// the graph's, and within their limits. `Err` comes where memory ran out.
+fn rated(alloc: Global, graph: Graph, codes: Codes) -> Result<Stage, AllocError>
+    requires well_formed { IsWellFormed (graph_tree graph) }
+    requires codes { AreCodesOf (graph_tree graph) codes }
+    requires limits { All IsWithinLimits (graph_tree graph).ports }
+    ensures stage { IfOk result (λ stage. stage_found stage ≡ behind_rates (graph_tree graph) (rate_fault (graph_tree graph))) }
+    ensures kept { IfOk result IsKept }
+{
+    match accept(alloc, graph, codes) {
+        Ok(accepted) => Ok(Stage::Accepted(accepted)),
+        Err(NotAccepted { graph, cause, .. }) => match cause {
+            AcceptCause::Rate(fault) => Ok(Stage::Misrated(graph, fault)),
+            AcceptCause::Unfit(why, set) => Ok(Stage::Unfit(graph, why, set)),
+            AcceptCause::Memory => Err(AllocError),
+        },
     }
 }
 

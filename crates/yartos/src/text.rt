@@ -60,12 +60,29 @@ impl Text {
         self.put(digits.bytes())
     }
 
+    /// Adds the decimal digits of a number. `Err` comes where memory ran out.
+    pub(crate) fn put_u128(&mut self, n: u128) -> Result<(), AllocError>
+        ensures { OnOk result (self.new ≡ self.old ++ decimal n) }
+    {
+        let mut digits = Line::new();
+        digits.put_u128(n);
+        self.put(digits.bytes())
+    }
+
     /// Adds a field: a space, and the decimal digits of a number. `Err` comes where memory ran out.
     pub(crate) fn put_field(&mut self, n: u64) -> Result<(), AllocError>
         ensures { OnOk result (self.new ≡ self.old ++ 32 ∷ decimal n) }
     {
         self.put(b" ")?;
         self.put_u64(n)
+    }
+
+    /// Adds a field of up to 128 bits: a space, and the decimal digits of a number. `Err` comes where memory ran out.
+    pub(crate) fn put_wide_field(&mut self, n: u128) -> Result<(), AllocError>
+        ensures { OnOk result (self.new ≡ self.old ++ 32 ∷ decimal n) }
+    {
+        self.put(b" ")?;
+        self.put_u128(n)
     }
 
     /// Adds the decimal digits of a number, behind a `-` where it is negative. `Err` comes where memory ran out.

@@ -73,4 +73,10 @@ mod edges;
 #[cfg(test)]
 mod handlers;
 #[cfg(test)]
+mod plays;
+#[cfg(test)]
+mod rates;
+#[cfg(test)]
+mod sets;
+#[cfg(test)]
 mod tests;

@@ -6,19 +6,30 @@ ghost use Rattle.yartos.specs.Words.{is_count, is_demo_count, names_file, reques
 
 use yt_base::{Decimal, digits};
 
-/// A command that judges a graph.
+/// What is asked of a graph whose names, costs and rates are in order.
+#[derive(Clone, Copy, Debug, PartialEq, Eq)]
+pub(crate) enum Question {
+    /// Its tasks.
+    Tasks,
+    /// Whether it fits.
+    Check,
+    /// Its run on a trace.
+    Run,
+    /// Its variables at a tick of a run.
+    Stop,
+}
+
+/// A command that judges files.
 #[derive(Clone, Copy, Debug, PartialEq, Eq)]
 pub(crate) enum Command {
-    /// The graph's canonical text.
+    /// The canonical text of a graph.
     Form,
-    /// The graph's tasks.
-    Tasks,
-    /// Whether the graph fits.
-    Check,
-    /// The run of the graph on a trace.
-    Run,
-    /// The variables of the graph at a tick of a run.
-    Stop,
+    /// A question about a graph.
+    Graph(Question),
+    /// Whether a set of tasks fits.
+    Set,
+    /// The play of a plan for a set of tasks.
+    Play,
 }
 
 /// What words ask for.
@@ -28,7 +39,7 @@ pub(crate) enum Request<'a> {
     Misuse,
     /// A command that isn't built yet.
     Later,
-    /// A command that judges the files of these names, the graph's first.
+    /// A command that judges the files of these names, the graph's or the set's first.
     Judges(Command, &'a [String]),
 }
 
@@ -53,7 +64,10 @@ fn request_of_command<'a>(command: &str, rest: &'a [String]) -> Request<'a>
             if command == "stop"
                 && is_file(graph.as_str())
                 && is_file(trace.as_str())
-                && is_count(tick.as_str()) => Request::Judges(Command::Stop, &rest[..2]),
+                && is_count(tick.as_str()) => Request::Judges(
+            Command::Graph(Question::Stop),
+            &rest[..2],
+        ),
         _ => Request::Misuse,
     }
 }
@@ -67,10 +81,12 @@ fn request_of_one<'a>(command: &str, word: &str, files: &'a [String]) -> Request
     if command == "form" && is_file {
         Request::Judges(Command::Form, files)
     } else if command == "tasks" && is_file {
-        Request::Judges(Command::Tasks, files)
+        Request::Judges(Command::Graph(Question::Tasks), files)
     } else if command == "check" && is_file {
-        Request::Judges(Command::Check, files)
-    } else if (command == "set" || command == "replay") && is_file {
+        Request::Judges(Command::Graph(Question::Check), files)
+    } else if command == "set" && is_file {
+        Request::Judges(Command::Set, files)
+    } else if command == "replay" && is_file {
         Request::Later
     } else if command == "demo" && is_demo_count(word) {
         Request::Later
@@ -86,9 +102,9 @@ fn request_of_two<'a>(command: &str, first: &str, second: &str, files: &'a [Stri
 {
     let are_files = is_file(first) && is_file(second);
     if command == "run" && are_files {
-        Request::Judges(Command::Run, files)
+        Request::Judges(Command::Graph(Question::Run), files)
     } else if command == "play" && are_files {
-        Request::Later
+        Request::Judges(Command::Play, files)
     } else {
         Request::Misuse
     }
@@ -154,20 +170,29 @@ mod tests {
     /// Lines of words with one space between them: a word may be empty.
     const LINES: [(&str, Asked); 45] = [
         ("form g", Asked::Judges(Command::Form, 1)),
-        ("tasks g", Asked::Judges(Command::Tasks, 1)),
-        ("check g", Asked::Judges(Command::Check, 1)),
-        ("run g t", Asked::Judges(Command::Run, 2)),
-        ("stop g t 7", Asked::Judges(Command::Stop, 2)),
-        ("stop g t 12345678", Asked::Judges(Command::Stop, 2)),
-        ("stop g t 00000000", Asked::Judges(Command::Stop, 2)),
-        ("set s", Asked::Later),
-        ("play s p", Asked::Later),
+        ("tasks g", Asked::Judges(Command::Graph(Question::Tasks), 1)),
+        ("check g", Asked::Judges(Command::Graph(Question::Check), 1)),
+        ("run g t", Asked::Judges(Command::Graph(Question::Run), 2)),
+        (
+            "stop g t 7",
+            Asked::Judges(Command::Graph(Question::Stop), 2),
+        ),
+        (
+            "stop g t 12345678",
+            Asked::Judges(Command::Graph(Question::Stop), 2),
+        ),
+        (
+            "stop g t 00000000",
+            Asked::Judges(Command::Graph(Question::Stop), 2),
+        ),
+        ("set s", Asked::Judges(Command::Set, 1)),
+        ("play s p", Asked::Judges(Command::Play, 2)),
         ("replay s", Asked::Later),
         ("demo 1", Asked::Later),
         ("demo 16", Asked::Later),
         ("demo 00000001", Asked::Later),
         ("form ", Asked::Judges(Command::Form, 1)),
-        ("run  t", Asked::Judges(Command::Run, 2)),
+        ("run  t", Asked::Judges(Command::Graph(Question::Run), 2)),
         ("", Asked::Misuse),
         ("form", Asked::Misuse),
         ("form g t", Asked::Misuse),

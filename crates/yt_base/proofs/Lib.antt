@@ -1,5 +1,6 @@
 pub mod Values
-pub mod Fields
+pub mod FieldLemmas
+pub mod LineCounts
 pub mod LinesLemmas
 pub mod Decimals
 pub mod Stays

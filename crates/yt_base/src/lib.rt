@@ -1,14 +1,19 @@
 //! Text without memory: a line of at most 256 bytes, the lines and fields of a text, and numbers in decimal digits.
 //!
+//! A file of lines is judged line by line: those that say nothing are skipped, and the first line at fault decides
+//! (`read_lines` in `specs/Files.antt`). [`Lines`], [`is_skipped`] and [`Fields`] take it apart.
+//!
 //! Nothing here takes memory or knows what a line is about. The contracts name the exact bytes that are put, and the exact
 //! places and values that are found.
 #![tactic(auto)]
 
 mod line;
+mod lines;
 mod numbers;
 mod span;
 
 pub use line::Line;
+pub use lines::{Fields, Lines, is_skipped};
 pub use numbers::{Decimal, digits, signed};
 pub use span::{Span, next_field, next_line};
 
@@ -80,6 +85,26 @@ mod tests {
         };
         assert_eq!(rt; next_field(text, 1, 6), Some(field));
         assert_eq!(rt; next_field(text, 1, 4), None);
+        Ok(())
+    }
+
+    #[test]
+    fn files_are_taken_apart(rt: HostRuntime) -> Result<(), Fail> {
+        let mut lines = Lines::new(b"  \n\t#a b\r\n a\t#b \r\n#\n\nc".as_slice());
+        for (line, skipped, first) in [
+            ("  ", true, None),
+            ("\t#a b", true, Some("#a")),
+            (" a\t#b ", false, Some("a")),
+            ("#", true, Some("#")),
+            ("", true, None),
+            ("c", false, Some("c")),
+        ] {
+            assert_eq!(rt; lines.next(), Some(line.as_bytes()));
+            assert_eq!(rt; is_skipped(line.as_bytes()), skipped, "at {line}");
+            let field = Fields::new(line.as_bytes()).next();
+            assert_eq!(rt; field, first.map(|text| text.as_bytes()), "at {line}");
+        }
+        assert_eq!(rt; lines.next(), None);
         Ok(())
     }
 }

@@ -1,2 +1,3 @@
+pub mod IntervalLemmas
 pub mod LoadLemmas
 pub mod MultipleLemmas

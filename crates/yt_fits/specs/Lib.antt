@@ -1,2 +1,4 @@
+pub mod Intervals
 pub mod Loads
 pub mod Unfits
+pub mod Worked

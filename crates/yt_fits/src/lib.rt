@@ -2,15 +2,19 @@
 //!
 //! The conditions are defined with task sets; here they are computed, without memory. This crate may not know of text,
 //! graphs or schedules. Its contract: [`fits`] tells exactly whether a set fits, and if not, which condition fails and by how
-//! much. So far the only condition is that the load is at most the hyperperiod.
+//! much.
 #![tactic(auto)]
 
+mod interval;
+mod laws;
 mod multiple;
 mod sums;
 mod unfit;
 
+pub use interval::{Breach, interval_plain};
+pub use laws::worked_intervals;
 pub use sums::{LoadSum, TooWide, load};
-pub use unfit::{Breach, Unfit, fits};
+pub use unfit::{Unfit, fits};
 
 #[cfg(test)]
 mod tests;

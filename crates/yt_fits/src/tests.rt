@@ -3,20 +3,29 @@ use std::alloc::Global;
 use std::test::Fail;
 use yt_set::{Task, TaskSet};
 
+/// The set of these tasks, each by its cost, its period and its resource.
+fn set_of(alloc: Global, tasks: &[(u64, u64, u32)]) -> Result<TaskSet, Fail> {
+    let mut list = Vec::new(alloc);
+    for (cost, period, resource) in tasks {
+        list.push(Task {
+            cost: *cost,
+            period: *period,
+            resource: *resource,
+        })?;
+    }
+    match TaskSet::new(list) {
+        Ok(set) => Ok(set),
+        Err(_) => Err("no set".into()),
+    }
+}
+
 /// Whether tasks of cost 1 and these periods fit.
 fn answer(alloc: Global, periods: &[u64]) -> Result<Result<LoadSum, Unfit>, Fail> {
     let mut tasks = Vec::new(alloc);
     for period in periods {
-        tasks.push(Task {
-            cost: 1,
-            period: *period,
-            resource: 0,
-        })?;
+        tasks.push((1, *period, 0))?;
     }
-    match TaskSet::new(tasks) {
-        Ok(set) => Ok(fits(&set)),
-        Err(_) => Err("no set".into()),
-    }
+    Ok(fits(&set_of(alloc, &tasks)?))
 }
 
 #[test]
@@ -52,23 +61,35 @@ fn loads_up_to_the_whole_fit(rt: HostRuntime) -> Result<(), Fail> {
         ),
         ((1, 6), (1, 4), Ok((5, 12))),
     ] {
-        let mut tasks = Vec::new(rt.alloc());
-        for (cost, period) in [first, second] {
-            tasks.push(Task {
-                cost,
-                period,
-                resource: 1,
-            })?;
-        }
-        let sides = match TaskSet::new(tasks) {
-            Ok(set) => match fits(&set) {
-                Ok(sum) => Ok((sum.part, sum.whole)),
-                Err(Unfit::Overload(sum)) => Err((sum.part, sum.whole)),
-                Err(_) => return Err("another reason".into()),
-            },
-            Err(_) => return Err("no set".into()),
+        let tasks = [(first.0, first.1, 0), (second.0, second.1, 0)];
+        let sides = match fits(&set_of(rt.alloc(), tasks.as_slice())?) {
+            Ok(sum) => Ok((sum.part, sum.whole)),
+            Err(Unfit::Overload(sum)) => Err((sum.part, sum.whole)),
+            Err(_) => return Err("another reason".into()),
         };
         assert_eq!(rt; sides, expected);
+    }
+    Ok(())
+}
+
+/// Three tasks, by cost, period and resource, and where the first of them lacks room: the task, the span and the need.
+const INTERVALS: [([(u64, u64, u32); 3], Option<(u32, u64, u128)>); 7] = [
+    ([(1, 4, 1), (5, 20, 1), (1, 20, 0)], Some((2, 5, 6))),
+    ([(1, 4, 1), (4, 20, 1), (1, 20, 0)], None),
+    ([(3, 6, 0), (1, 5, 1), (5, 30, 1)], Some((3, 7, 9))),
+    ([(2, 5, 0), (1, 8, 1), (4, 40, 1)], None),
+    ([(1, 4, 1), (5, 20, 1), (5, 20, 1)], Some((2, 5, 6))),
+    ([(1, 4, 1), (5, 20, 2), (5, 20, 3)], None),
+    ([(1, 4, 0), (5, 20, 0), (5, 20, 0)], None),
+];
+
+#[test]
+fn a_span_without_room_is_found(rt: HostRuntime) -> Result<(), Fail> {
+    for (tasks, expected) in &INTERVALS {
+        let set = set_of(rt.alloc(), tasks.as_slice())?;
+        let breach = expected.map(|(task, len, need)| Breach { task, len, need });
+        assert_eq!(rt; interval_plain(&set), breach);
+        assert_eq!(rt; fits(&set).err(), breach.map(Unfit::Interval));
     }
     Ok(())
 }

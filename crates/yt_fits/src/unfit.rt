@@ -1,9 +1,10 @@
 //! Whether a set fits.
 ghost use Rattle.std.specs.Prelude.{◌≡◌, ◌≤◌, IfOk, IfErr};
-ghost use Rattle.yt_set.specs.Tasks.{FitsLoad, hyperperiod};
+ghost use Rattle.yt_set.specs.Tasks.{Fits, hyperperiod};
 ghost use Rattle.yt_fits.specs.Loads.{load_sum, most_multiple};
-ghost use Rattle.yt_fits.specs.Unfits.{IsReason};
+ghost use Rattle.yt_fits.specs.Unfits.{IsReason, IsUnfit, NamesTaskOf};
 
+use crate::interval::{Breach, interval_plain};
 use crate::sums::{LoadSum, load};
 use yt_set::TaskSet;
 
@@ -14,36 +15,27 @@ pub enum Unfit {
     Hyperperiod(u32),
     /// The load is greater than the hyperperiod.
     Overload(LoadSum),
-    /// A job that keeps its resource leaves too little room for others.
+    /// A job that keeps its resource leaves too little room for others. It is the shortest span in which one does, and the first
+    /// task whose job does so in it.
     Interval(Breach),
 }
 
-/// A span in which a job that keeps its resource leaves too little room for others.
-#[derive(Clone, Copy, Debug, PartialEq, Eq)]
-pub struct Breach {
-    /// The job's task, by its number from 1.
-    pub task: u32,
-    /// The length of the span in ticks.
-    pub len: u64,
-    /// The ticks that can be asked for in it.
-    pub need: u128,
-}
-
-/// Whether the load of a set is at most its hyperperiod, where this is at most 2^100; with both, or why not. `Interval` doesn't
-/// come yet. Takes no memory.
+/// Whether a set fits: its load is at most its hyperperiod, which is at most 2^100, and each job that keeps a resource leaves room
+/// for others; with the load, or why not. A reason names tasks of the set alone. Takes no memory.
 pub fn fits(set: &TaskSet) -> Result<LoadSum, Unfit>
     ensures ok { IfOk result (λ sum. sum ≡ load_sum set.now) }
     ensures narrow { IfOk result (λ sum. hyperperiod set.now ≤ most_multiple) }
-    ensures loads { IfOk result (λ sum. FitsLoad set.now) }
+    ensures fits { IfOk result (λ sum. Fits set.now) }
     ensures err { IfErr result (λ why. IsReason set.now why) }
+    ensures unfit { IfErr result (λ why. IsUnfit set.now) }
+    ensures named { IfErr result (λ why. NamesTaskOf set.now why) }
 {
     match load(set) {
         Err(wide) => Err(Unfit::Hyperperiod(wide.task)),
-        Ok(sum) => {
-            if sum.part > sum.whole {
-                return Err(Unfit::Overload(sum));
-            }
-            Ok(sum)
-        }
+        Ok(sum) if sum.part > sum.whole => Err(Unfit::Overload(sum)),
+        Ok(sum) => match interval_plain(set) {
+            Some(breach) => Err(Unfit::Interval(breach)),
+            None => Ok(sum),
+        },
     }
 }

@@ -8,11 +8,11 @@ use Rattle.yt_log.specs.Plan.{jobs_of, IsNext, IsLegalAfter, IsLegal}
 use Rattle.yt_log.proofs.Plans.{jobs_of-cons}
 
 -- xs from its last item on, and then ys
-pub rev_onto : List PlanItem → List PlanItem → List PlanItem
+unfoldable pub rev_onto : List PlanItem → List PlanItem → List PlanItem
 rev_onto [] ys = ys
 rev_onto (x ∷ xs) ys = rev_onto xs (x ∷ ys)
 
-has_rev_onto : (xs ys : List PlanItem) (e : PlanItem) → Has (rev_onto xs ys) e → Has xs e ⊎ Has ys e
+pub has_rev_onto : (xs ys : List PlanItem) (e : PlanItem) → Has (rev_onto xs ys) e → Has xs e ⊎ Has ys e
 unfolding rev_onto
 has_rev_onto [] ys e h = inr h
 has_rev_onto (x ∷ xs) ys e h =
@@ -30,7 +30,7 @@ unfolding rev_onto
 jobs_of-rev_onto n [] ys = let a = jobs_of-nil n in omega arith
 jobs_of-rev_onto n (x ∷ xs) ys = let a = jobs_of-rev_onto n xs (x ∷ ys) in let b = jobs_of-cons n x ys in let c = jobs_of-cons n x xs in omega arith
 
-legal_more : (tasks : List Task) (before xs : List PlanItem) (i : PlanItem) → IsLegalAfter tasks before xs → IsNext tasks (rev_onto xs before) i → IsLegalAfter tasks before (xs ++ i ∷ [])
+pub legal_more : (tasks : List Task) (before xs : List PlanItem) (i : PlanItem) → IsLegalAfter tasks before xs → IsNext tasks (rev_onto xs before) i → IsLegalAfter tasks before (xs ++ i ∷ [])
 unfolding rev_onto
 legal_more tasks before [] i legal next = (next, tt)
 legal_more tasks before (x ∷ xs) i legal next = (legal.0, legal_more tasks (x ∷ before) xs i legal.1 next)

@@ -23,14 +23,14 @@ precedes_less x y xs ys h = precedes-cons x y xs ys ∙ or_left (ltb x y) (eqb x
 pub precedes_same : (x y : ℕ) (xs ys : List ℕ) → x ≡ y → precedes xs ys ≡ true → precedes (x ∷ xs) (y ∷ ys) ≡ true
 precedes_same x y xs ys e h = precedes-cons x y xs ys ∙ or_right (ltb x y) (eqb x y && precedes xs ys) (and_from (eqb x y) (precedes xs ys) (eq-eqb x y e) h)
 
-precedes_parts : (x y : ℕ) (xs ys : List ℕ) → precedes (x ∷ xs) (y ∷ ys) ≡ true → (x < y) ⊎ ((x ≡ y) × (precedes xs ys ≡ true))
+pub precedes_parts : (x y : ℕ) (xs ys : List ℕ) → precedes (x ∷ xs) (y ∷ ys) ≡ true → (x < y) ⊎ ((x ≡ y) × (precedes xs ys ≡ true))
 precedes_parts x y xs ys h =
     ⊎_elim
     (λ (l : ltb x y ≡ true). inl (ltb-true x y l))
     (λ (r : (eqb x y && precedes xs ys) ≡ true). let q = and_parts (eqb x y) (precedes xs ys) r in inr (eqb-true x y q.0, q.1))
     (or_cases (ltb x y) (eqb x y && precedes xs ys) (sym (precedes-cons x y xs ys) ∙ h))
 
-precedes_one_way : (xs ys : List ℕ) → precedes xs ys ≡ true → precedes ys xs ≡ true → ⊥
+pub precedes_one_way : (xs ys : List ℕ) → precedes xs ys ≡ true → precedes ys xs ≡ true → ⊥
 unfolding precedes
 precedes_one_way [] [] h k = cc
 precedes_one_way [] (y ∷ ys) h k = cc
@@ -42,7 +42,7 @@ precedes_one_way (x ∷ xs) (y ∷ ys) h k =
     (precedes_parts x y xs ys h)
 
 -- what comes before zs comes before ys, or ys before zs
-precedes_either : (xs ys zs : List ℕ) → precedes xs zs ≡ true → (precedes xs ys ≡ true) ⊎ (precedes ys zs ≡ true)
+pub precedes_either : (xs ys zs : List ℕ) → precedes xs zs ≡ true → (precedes xs ys ≡ true) ⊎ (precedes ys zs ≡ true)
 unfolding precedes
 precedes_either [] [] zs h = inr h
 precedes_either [] (y ∷ ys) zs h = inl refl
@@ -233,7 +233,7 @@ unfolding current_deadline
 current_fresh tasks log t i e =
     cond-true (eqb (done log i.job t) 0) (deadline_of tasks i) (lowered (deadline_of tasks i) (first_tick log i.job t) (floor_of tasks (its_task tasks i).resource)) (eq-eqb (done log i.job t) 0 e)
 
-current_begun : (tasks : List Task) (log : Ticks) (t : ℕ) (i : PlanItem) → 0 < done log i.job t →
+pub current_begun : (tasks : List Task) (log : Ticks) (t : ℕ) (i : PlanItem) → 0 < done log i.job t →
     current_deadline tasks log t i ≡ lowered (deadline_of tasks i) (first_tick log i.job t) (floor_of tasks (its_task tasks i).resource)
 unfolding current_deadline
 current_begun tasks log t i h =

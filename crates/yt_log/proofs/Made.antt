@@ -16,7 +16,7 @@ Agree a b t = (u : ℕ) → u < t → tick a u ≡ tick b u
 agree_less : (a b : Ticks) (t : ℕ) → Agree a b (suc t) → Agree a b t
 agree_less a b t h u l = h u (omega arith)
 
-done_same : (a b : Ticks) (j : Job) (t : ℕ) → Agree a b t → done a j t ≡ done b j t
+pub done_same : (a b : Ticks) (j : Job) (t : ℕ) → Agree a b t → done a j t ≡ done b j t
 unfolding done
 done_same a b j zero h = refl
 done_same a b j (suc t) h = ap₂ (λ (n : ℕ) (o : Option Job). n + cond (names o j) 1 0) (done_same a b j t (agree_less a b t h)) (h t (omega arith))

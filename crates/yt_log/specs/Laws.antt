@@ -1,4 +1,4 @@
--- What is proved of every task set, plan and log.
+-- What is proved of every task set, plan and log. The rule is earliest deadline first with dynamic deadline modification (`IsEdfDdm`).
 use Rattle.std.specs.Prelude.{◌≡◌, ◌⊎◌, ℕ, ◌+◌, ◌-◌, ◌<◌, ◌≤◌, List, [], ◌∷◌, ◌++◌, Some, None, length}
 use Rattle.std.specs.List.{All}
 use Rattle.yt_set.specs.declared.task.Task.{Task}
@@ -14,12 +14,12 @@ use Rattle.yt_log.specs.Patterns.{MustMiss, pattern_plan, all_tasks, blocker}
 abbrev pub EveryDemandFits : Type 0
 EveryDemandFits = (tasks : List Task) → IsTaskSet tasks → FitsLoad tasks → (t : ℕ) → demand_bound tasks t ≤ t
 
--- where more is due than there are ticks, all tasks from zero on miss a deadline, whatever the log; so they do by the hyperperiod where the load doesn't fit
+-- where more is due than there are ticks, all tasks from zero on must miss a deadline by then; so they must by the hyperperiod where the load doesn't fit
 pub record OverloadsMiss : Type 0 where
   pub demand : (tasks : List Task) → IsTaskSet tasks → (t : ℕ) → t < demand_bound tasks t → MustMiss tasks (pattern_plan (all_tasks tasks t)) t
   pub load : (tasks : List Task) → IsTaskSet tasks → hyperperiod tasks < load tasks (hyperperiod tasks) → MustMiss tasks (pattern_plan (all_tasks tasks (hyperperiod tasks))) (hyperperiod tasks)
 
--- where a task leaves no room in a span, its job at 0 and what arrives after that miss a deadline by the span's end, whatever the log
+-- where a task leaves no room in a span, its job at 0 and what arrives after that must miss a deadline by the span's end
 abbrev pub BlockersMiss : Type 0
 BlockersMiss =
     (tasks : List Task) → IsTaskSet tasks → (i : ℕ) → 1 ≤ i → i ≤ length tasks →

@@ -1,8 +1,17 @@
+pub mod Counts
 pub mod EdfDdm
+pub mod Following
+pub mod Heads
+pub mod Judging
+pub mod LastJobs
 pub mod Laws
 pub mod Order
 pub mod Patterns
 pub mod Plan
+pub mod PlanReading
+pub mod PlanText
+pub mod Printed
+pub mod Segments
 pub mod Tasks
 pub mod Ticks
 pub mod Worked

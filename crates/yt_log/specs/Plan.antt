@@ -1,5 +1,6 @@
 -- Plans: which jobs arrive when, and what they cost.
-use Rattle.std.specs.Prelude.{◌≡◌, ℕ, ◌+◌, ◌≤◌, ◌==◌, ◌&&◌, Bool, List, [], ◌∷◌, length, if◌then◌else◌}
+use Rattle.std.specs.Prelude.{◌≡◌, ℕ, ◌+◌, ◌≤◌, ◌==◌, ◌&&◌, max, Bool, List, [], ◌∷◌, length, if◌then◌else◌}
+use Rattle.std.specs.List.{All}
 use Rattle.yt_set.specs.declared.task.Task.{Task}
 use Rattle.yt_set.specs.Tasks.{within}
 use Rattle.yt_log.specs.declared.job.Job.{Job}
@@ -40,3 +41,31 @@ IsLegalAfter tasks before (item ∷ items) = IsNext tasks before item × IsLegal
 -- a legal plan: in order of arrival, each task's jobs numbered from 1 and at least its period apart, none above its task's cost
 abbrev pub IsLegal : List Task → List PlanItem → Type 0
 IsLegal tasks plan = IsLegalAfter tasks [] plan
+
+-- the items arrive in order, the first at t or later
+abbrev pub ArriveFrom : ℕ → List PlanItem → Type 0
+ArriveFrom t [] = Unit {0}
+ArriveFrom t (item ∷ items) = (t ≤ item.arrival) × ArriveFrom item.arrival items
+
+-- the items are in order of arrival
+abbrev pub IsInOrder : List PlanItem → Type 0
+IsInOrder plan = ArriveFrom 0 plan
+
+-- the arrival of the last item, t where there is none
+abbrev pub last_from : ℕ → List PlanItem → ℕ
+last_from t [] = t
+last_from t (item ∷ items) = last_from item.arrival items
+
+-- the arrival of a plan's last item; 0 where it has none
+abbrev pub last_arrival : List PlanItem → ℕ
+last_arrival plan = last_from 0 plan
+
+-- a legal plan whose items arrive by tick 8,000,000
+pub record IsLegalPlan (tasks : List Task) (plan : List PlanItem) : Type 0 where
+  pub legal : IsLegal tasks plan
+  pub early : All (λ item. item.arrival ≤ 8000000) plan
+
+-- the greatest deadline of the items; 0 where there are none
+abbrev pub horizon : List Task → List PlanItem → ℕ
+horizon tasks [] = 0
+horizon tasks (item ∷ items) = max (deadline_of tasks item) (horizon tasks items)

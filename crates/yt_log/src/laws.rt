@@ -7,13 +7,14 @@ pub fn every_demand()
     ensures { EveryDemandFits }
 {}
 
-/// Where the load of a set doesn't fit, all tasks from zero on miss a deadline by the hyperperiod, whatever the log.
+/// Where the load of a set doesn't fit, all tasks from zero on miss a deadline by the hyperperiod, in every lawful, work-conserving
+/// and exclusive log of at least that many ticks.
 pub fn overloads_miss()
     ensures { OverloadsMiss }
 {}
 
 /// Where a job that keeps its resource leaves no room in a span, it and what arrives after its first tick miss a deadline by the
-/// span's end, whatever the log.
+/// span's end, in every lawful, work-conserving and exclusive log of at least that many ticks.
 pub fn blockers_miss()
     ensures { BlockersMiss }
 {}
@@ -38,7 +39,7 @@ pub fn rule_misses()
     ensures { RuleMisses }
 {}
 
-/// A set fits exactly where it has no legal plan of which every log misses.
+/// A set fits exactly where it has no legal plan that must miss (`MustMiss`).
 pub fn fits_is_exact()
     ensures { FitsIsExact }
 {}

@@ -7,9 +7,9 @@ use Rattle.yt_graph.specs.WellFormed.{IsWellFormed}
 use Rattle.yt_cost.specs.Codes.{PortCode, AreCodesOf}
 use Rattle.yt_cost.specs.Faults.{IsWithinLimits}
 use Rattle.yt_set.specs.declared.task.Task.{Task}
-use Rattle.yt_set.specs.Tasks.{hyperperiod, FitsLoad}
+use Rattle.yt_set.specs.Tasks.{Fits, hyperperiod}
 use Rattle.yt_fits.specs.Loads.{most_multiple}
-use Rattle.yt_fits.specs.Unfits.{IsReason}
+use Rattle.yt_fits.specs.Unfits.{IsReason, IsUnfit}
 use Rattle.yt_rates.specs.declared.fault.RateFault as fault
 use Rattle.yt_rates.specs.declared.fault.RateFault.{RateFault}
 use Rattle.yt_rates.specs.declared.refused.AcceptCause as cause
@@ -24,14 +24,14 @@ pub record Parts : Type 0 where
   pub rates : List PortRates
   pub set : List Task
 
--- the rates and the tasks are the graph's, the rates are within their limits, and the load of the tasks fits over a hyperperiod
--- of 2^100 at most
+-- the rates and the tasks are the graph's, the rates are within their limits, and the tasks fit, with a hyperperiod of 2^100 at
+-- most
 pub record IsFitting (g : GraphTree) (table : List PortRates) (tasks : List Task) : Type 0 where
   pub rates : AreRatesOf g table
   pub limits : All (IsWithinRates g) g.ports
   pub set : tasks ≡ tasks_of g
   pub narrow : hyperperiod tasks ≤ most_multiple
-  pub loads : FitsLoad tasks
+  pub fits : Fits tasks
 
 -- the graph is well formed, the codes are the graph's and within their limits, and its rates and tasks fit
 pub record IsAccepted (parts : Parts) : Type 0 where
@@ -50,5 +50,5 @@ cause_of (fault.TheVariants.Span port) = cause.TheVariants.Rate (fault.TheVarian
 -- the cause is the graph's: the fault of the rates that decides; else its tasks, and why they don't fit; or memory ran out
 abbrev pub IsCauseOf : GraphTree → AcceptCause → Type 0
 IsCauseOf g (cause.TheVariants.Rate fault) = rate_fault g ≡ Some fault
-IsCauseOf g (cause.TheVariants.Unfit why set) = (rate_fault g ≡ None) × (set ≡ tasks_of g) × IsReason set why
+IsCauseOf g (cause.TheVariants.Unfit why set) = (rate_fault g ≡ None) × (set ≡ tasks_of g) × IsReason set why × IsUnfit set
 IsCauseOf g cause.TheVariants.Memory = Unit {0}

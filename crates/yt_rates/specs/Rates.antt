@@ -15,7 +15,7 @@ every_of port out = unwrap_or (option_map (λ o. o.every) (slice_get port.outs (
 abbrev pub gap_in : PortTree → ℕ → ℕ → ℕ
 gap_in port period out = every_of port out * period / greatest_sends port out
 
--- the messages that an out, from 1, passes on for those that come to its port: the last comes a period and all gaps but one later
+-- the messages that an out, from 1, passes on for those that come to its port: the last comes a period and all gaps between its sends later
 abbrev pub passed_on : PortTree → Stream → ℕ → Stream
 passed_on port stream out = record {
   period = gap_in port stream.period out;

@@ -1,5 +1,4 @@
 //! Graphs whose tasks fit.
-
 ghost use Rattle.std.specs.Prelude.{◌≡◌};
 ghost use Rattle.std.specs.List.{All};
 ghost use Rattle.yt_graph.specs.Picture.{graph_tree};
@@ -14,7 +13,7 @@ use yt_cost::Codes;
 use yt_graph::Graph;
 use yt_set::TaskSet;
 
-/// A well-formed graph with its codes, its rates and its tasks, whose load fits. A contract sees these four.
+/// A well-formed graph with its codes, its rates and its tasks, which fit. A contract sees these four.
 #[derive(Drop)]
 pub struct Accepted {
     graph: Graph,
@@ -48,7 +47,7 @@ impl Model for Accepted {
 }
 
 impl Accepted {
-    // The accepted graph of these parts.
+    /// The accepted graph of these parts.
     pub(crate) fn new(graph: Graph, codes: Codes, rates: RateTable, set: TaskSet) -> Self
         requires well_formed { IsWellFormed (graph_tree graph) }
         requires codes { AreCodesOf (graph_tree graph) codes }
@@ -65,7 +64,7 @@ impl Accepted {
         }
     }
 
-    /// The graph. Takes no memory, as the other parts.
+    /// The graph. Neither this nor the three below take memory.
     pub fn graph(&self) -> &Graph
         ensures graph { result.now ≡ self.now.graph }
         ensures accepted { IsAccepted self.now }

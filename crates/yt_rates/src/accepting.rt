@@ -1,5 +1,4 @@
 //! Whether a graph is accepted.
-
 ghost use Rattle.std.specs.Prelude.{◌≡◌, None, IfOk, IfErr};
 ghost use Rattle.std.specs.List.{All};
 ghost use Rattle.yt_graph.specs.Picture.{graph_tree};
@@ -51,14 +50,14 @@ pub fn accept(alloc: Global, graph: Graph, codes: Codes) -> Result<Accepted, Not
     }
 }
 
-// The rates and the tasks of a graph that fits.
+/// The rates and the tasks of a graph that fits.
 #[derive(Drop)]
 struct Fitting {
     rates: RateTable,
     set: TaskSet,
 }
 
-// The rates and the tasks of a graph, or why it is not accepted.
+/// The rates and the tasks of a graph, or why it is not accepted.
 fn judge(alloc: Global, graph: &Graph, codes: &Codes) -> Result<Fitting, AcceptCause>
     requires well_formed { IsWellFormed (graph_tree graph.now) }
     requires codes { AreCodesOf (graph_tree graph.now) codes.now }

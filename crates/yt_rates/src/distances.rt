@@ -1,5 +1,4 @@
 //! How far ports stand from the input.
-
 ghost use Rattle.std.specs.Prelude.{◌≡◌, map, length, IfOk};
 ghost use Rattle.yt_graph.specs.Picture.{graph_tree};
 ghost use Rattle.yt_graph.specs.WellFormed.{IsWellFormed, EndsWithin};
@@ -20,7 +19,7 @@ pub(crate) fn distances(alloc: Global, graph: &Graph) -> Result<Vec<usize>, Allo
     Ok(all)
 }
 
-// How many ports stand between the input and a feed.
+/// How many ports stand between the input and a feed.
 fn distance(graph: &Graph, feed: Feed) -> usize
     requires { EndsWithin (graph_tree graph.now) (length (graph_tree graph.now).ports) feed }
     ensures { result ≡ distance_within (graph_tree graph.now) (length (graph_tree graph.now).ports) feed }

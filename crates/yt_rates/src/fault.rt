@@ -1,5 +1,4 @@
 //! What can be out of range in a graph's rates.
-
 ghost use Rattle.std.specs.Prelude.{◌≡◌};
 ghost use Rattle.yt_rates.specs.declared.fault.RateFault.TheVariants.{Memory};
 
@@ -8,9 +7,9 @@ use std::alloc::AllocError;
 /// Why a graph has no rates within the limits. Ports and outs are numbered from 1.
 #[derive(Clone, Copy, Debug, PartialEq, Eq)]
 pub enum RateFault {
-    /// The period of this port is more than 1,000,000 ticks: so many.
+    /// This port's period is `period` ticks, more than 1,000,000.
     Over { port: u32, period: u64 },
-    /// A handling on this port sends nothing on this out, or the gap between two messages of the out would be 0 ticks.
+    /// No handling on this port sends on this out, or the gap between two messages of the out would be 0 ticks.
     Zero { port: u32, out: u32 },
     /// A message that this port sends may come more than 4,000,000 ticks of logical time after the input's message.
     Span { port: u32 },

@@ -1,5 +1,4 @@
 //! Laws of the definitions.
-
 ghost use Rattle.yt_rates.specs.Laws.{RatesAlongAnOut, RatesOfAnInput};
 
 /// A port that an input feeds has the input's period, the start 0 and the distance 0.

@@ -1,5 +1,4 @@
 //! What the outs of a port pass on.
-
 ghost use Rattle.std.specs.Prelude.{◌≡◌, ◌+◌, ◌-◌, ◌*◌, ◌/◌, ◌≤◌, None, Some, length, IfOk, IfErr};
 ghost use Rattle.std.specs.Option.{ForSome};
 ghost use Rattle.std.specs.List.{All};
@@ -15,7 +14,7 @@ use arrayvec::ArrayVec;
 use yt_cost::Codes;
 use yt_graph::Port;
 
-// The longest logical time from an input's message to one that comes of it, in ticks.
+/// The longest logical time from an input's message to one that comes of it, in ticks.
 const MOST_REACH: u64 = 4_000_000;
 
 /// What each out of the port of this number, from 1, passes on, or the fault of its first out that has one.
@@ -56,7 +55,8 @@ pub(crate) fn rate_outs(
     Ok(outs)
 }
 
-// What an out passes on of these messages, of whose jobs each `every`-th sends so many at most.
+/// What an out passes on where these messages come to its port, each `every`-th job passes its own on, and a job sends at most
+/// `sends`.
 fn passed_on(stream: Stream, every: u32, sends: u32) -> Stream
     requires some { 1 ≤ sends }
     requires every { every ≤ 1000 }

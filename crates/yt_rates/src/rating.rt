@@ -1,5 +1,4 @@
 //! The rates of a graph.
-
 ghost use Rattle.std.specs.Prelude.{◌≡◌, ℕ, ◌+◌, ◌-◌, ◌<◌, ◌≤◌, map, None, Some, length, slice_get, vec_len, IfOk, IfErr, OnOk};
 ghost use Rattle.std.specs.List.{All};
 ghost use Rattle.std.specs.Option.{ForSome};
@@ -20,7 +19,7 @@ use std::alloc::{AllocError, Global};
 use yt_cost::Codes;
 use yt_graph::{Feed, Graph};
 
-// The longest period, in ticks.
+/// The longest period, in ticks.
 const MOST_PERIOD: u64 = 1_000_000;
 
 /// Rates each port. The caller shows that the graph is well formed and that the codes are the graph's.
@@ -48,7 +47,7 @@ pub fn rates(alloc: Global, graph: &Graph, codes: &Codes) -> Result<RateTable, R
     Ok(RateTable::new(table))
 }
 
-// A table of so many ports that holds nothing yet.
+/// A table of so many ports that holds nothing yet.
 fn blank(alloc: Global, count: usize) -> Result<Vec<Kept>, AllocError>
     ensures { IfOk result (λ v. length v.items ≡ count) }
 {
@@ -62,7 +61,7 @@ fn blank(alloc: Global, count: usize) -> Result<Vec<Kept>, AllocError>
     Ok(table)
 }
 
-// Rates the ports that stand so far from the input, in order, where those nearer to it are rated.
+/// Rates the ports that stand so far from the input, in order, where those nearer to it are rated.
 fn rate_at(
     graph: &Graph,
     codes: &Codes,
@@ -87,7 +86,7 @@ fn rate_at(
     Ok(())
 }
 
-// The rates of the port at this place, from 0, or its fault, where the port that feeds it is rated.
+/// The rates of the port at this place, from 0, or its fault, where the port that feeds it is rated.
 fn rate_port(graph: &Graph, codes: &Codes, table: &[Kept], place: usize) -> Result<Kept, RateFault>
     requires well_formed { IsWellFormed (graph_tree graph.now) }
     requires codes { AreCodesOf (graph_tree graph.now) codes.now }
@@ -110,7 +109,7 @@ fn rate_port(graph: &Graph, codes: &Codes, table: &[Kept], place: usize) -> Resu
     Ok(Kept { stream, outs })
 }
 
-// The messages of a feed, which the table knows.
+/// The messages of a feed, which the table knows.
 fn stream_to(graph: &Graph, table: &[Kept], feed: Feed) -> Stream
     requires { IsKnown (graph_tree graph.now) table.now feed (stream_within (graph_tree graph.now) (length (graph_tree graph.now).ports) feed) }
     ensures { result ≡ stream_within (graph_tree graph.now) (length (graph_tree graph.now).ports) feed }

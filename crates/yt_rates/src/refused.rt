@@ -1,5 +1,4 @@
 //! Why a graph is not accepted.
-
 ghost use Rattle.std.specs.Prelude.{◌≡◌};
 ghost use Rattle.yt_rates.specs.declared.refused.AcceptCause.TheVariants.{Memory};
 ghost use Rattle.yt_rates.specs.Acceptance.{cause_of};

@@ -1,5 +1,4 @@
 //! What is kept of a graph's rates.
-
 ghost use Rattle.std.specs.Prelude.{◌≡◌, ◌-◌, ◌≤◌, length, Some, slice_get, IsSomeAnd};
 ghost use Rattle.yt_rates.specs.Tables.{ForRates};
 
@@ -43,7 +42,7 @@ impl Model for RateTable {
 }
 
 impl RateTable {
-    // The rates of ports in order.
+    /// The rates of ports in order.
     pub(crate) fn new(ports: Vec<Kept>) -> Self
         ensures { result ≡ ports.items }
     {

@@ -1,5 +1,4 @@
 //! The tasks of a graph.
-
 ghost use Rattle.std.specs.Prelude.{◌≡◌, IfOk};
 ghost use Rattle.std.specs.List.{All};
 ghost use Rattle.yt_graph.specs.Picture.{graph_tree};

@@ -1,5 +1,4 @@
 //! What is read of rates that are kept.
-
 use crate::stream::Stream;
 use crate::table::{Kept, RateTable};
 use arrayvec::ArrayVec;

@@ -1,36 +1,38 @@
 -- One task whose jobs run alone: what holds of its plan and its log.
-use Rattle.yt_run.specs.declared.job.Job.{Job}
 use Rattle.std.proofs.Common.{◌≡◌, ℕ, suc, ◌+◌, ◌<◌, ◌≤◌, cond, eqb, List, [], ◌∷◌, ◌++◌, length, map, replicate, None, refl, sym, ap, subst, ◌∙◌, inl, inr, ⊎_elim, arith, append_assoc, append-nil, zero-le}
-use Rattle.yt_run.specs.Tasks.{Has, task_of}
-use Rattle.yt_run.specs.Plan.{Item, its_task, deadline_of, jobs_of, IsLegalAfter, IsLegal}
-use Rattle.yt_run.specs.Ticks.{Ticks, begun_below, order_of, Misses}
-use Rattle.yt_run.specs.Alone.{one_task, nth_job, AreApartFrom, AreApart, RunsAlone, items_from, alone_from}
-use Rattle.yt_run.proofs.Done.{done_within, begun_fresh, begun_again, begun_idle, begun_stays}
-use Rattle.yt_run.proofs.AtOnce.{RunsAtOnce, done_at_once, done_in_time, ends_within, at_once_lawful, at_once_work_conserving, at_once_exclusive, at_once_edf_ddm, at_once_finished, at_once_first_tick}
+use Rattle.yt_log.specs.declared.job.Job.{Job}
+use Rattle.yt_log.specs.declared.plan.PlanItem.{PlanItem}
+use Rattle.yt_log.specs.Plan.{its_task, deadline_of, jobs_of, IsLegalAfter, IsLegal}
+use Rattle.yt_log.specs.Tasks.{Has, task_of}
+use Rattle.yt_log.specs.Ticks.{Ticks, Misses}
+use Rattle.yt_run.specs.Alone.{one_task, nth_job, TimesAreApartFrom, TimesAreApart, RunsAlone, items_from, alone_from}
+use Rattle.yt_run.specs.Beginnings.{begun_below, order_of}
 use Rattle.yt_run.proofs.AloneTicks.{RunFrom, one_from, alone_runs_from, alone_at_once}
+use Rattle.yt_run.proofs.AtOnce.{RunsAtOnce, done_at_once, done_in_time, ends_within, at_once_lawful, at_once_work_conserving, at_once_exclusive, at_once_edf_ddm, at_once_finished, at_once_first_tick}
+use Rattle.yt_run.proofs.Done.{done_within, begun_fresh, begun_again, begun_idle, begun_stays}
 
 -- the only task's period and cost
-one_task_period : (cost period : ℕ) (item : Item) → item.job.task ≡ 1 → (its_task (one_task cost period) item).period ≡ period
+one_task_period : (cost period : ℕ) (item : PlanItem) → item.job.task ≡ 1 → (its_task (one_task cost period) item).period ≡ period
 unfolding task_of
 one_task_period cost period item e = ap (λ (n : ℕ). (task_of (one_task cost period) n).period) e
 
-one_task_cost : (cost period : ℕ) (item : Item) → item.job.task ≡ 1 → (its_task (one_task cost period) item).cost ≡ cost
+one_task_cost : (cost period : ℕ) (item : PlanItem) → item.job.task ≡ 1 → (its_task (one_task cost period) item).cost ≡ cost
 unfolding task_of
 one_task_cost cost period item e = ap (λ (n : ℕ). (task_of (one_task cost period) n).cost) e
 
-one_task_deadline : (cost period : ℕ) (item : Item) → item.job.task ≡ 1 → deadline_of (one_task cost period) item ≡ item.arrival + period
+one_task_deadline : (cost period : ℕ) (item : PlanItem) → item.job.task ≡ 1 → deadline_of (one_task cost period) item ≡ item.arrival + period
 unfolding deadline_of
 one_task_deadline cost period item e = ap (λ (n : ℕ). item.arrival + n) (one_task_period cost period item e)
 
-jobs_of-one : (item : Item) (before : List Item) → item.job.task ≡ 1 → jobs_of 1 (item ∷ before) ≡ suc (jobs_of 1 before)
+pub jobs_of-one : (item : PlanItem) (before : List PlanItem) → item.job.task ≡ 1 → jobs_of 1 (item ∷ before) ≡ suc (jobs_of 1 before)
 unfolding jobs_of
 jobs_of-one item before e = let P : ℕ → Type 0 = λ n. cond (eqb n 1) 1 0 + jobs_of 1 before ≡ suc (jobs_of 1 before) in subst P (sym e) (omega arith)
 
-legal_from : (cost period : ℕ) → 1 ≤ cost → (n from : ℕ) (times : List ℕ) (before : List Item) → AreApartFrom period from times → jobs_of 1 before ≡ n →
-    ((earlier : Item) → Has before earlier → earlier.arrival + period ≤ from) → IsLegalAfter (one_task cost period) before (items_from cost n times)
+legal_from : (cost period : ℕ) → 1 ≤ cost → (n from : ℕ) (times : List ℕ) (before : List PlanItem) → TimesAreApartFrom period from times → jobs_of 1 before ≡ n →
+    ((earlier : PlanItem) → Has before earlier → earlier.arrival + period ≤ from) → IsLegalAfter (one_task cost period) before (items_from cost n times)
 legal_from cost period some n from [] before apart count early = tt
 legal_from cost period some n from (a ∷ times) before apart count early =
-    let item : Item = record { job = nth_job (suc n); arrival = a; cost = cost } in
+    let item : PlanItem = record { job = nth_job (suc n); arrival = a; cost = cost } in
     let tasks = one_task cost period in
     let come = apart.0 in
     let p = one_task_period cost period item refl in
@@ -45,20 +47,20 @@ legal_from cost period some n from (a ∷ times) before apart count early =
         most = omega arith;
       },
       legal_from cost period some (suc n) (a + period) times (item ∷ before) apart.1 (jobs_of-one item before refl ∙ ap suc count)
-          (λ e h. ⊎_elim (λ (q : e ≡ item). let r : e.arrival ≡ a = ap (λ (y : Item). y.arrival) q in omega arith) (λ (m : Has before e). let b = early e m in omega arith) h),
+          (λ e h. ⊎_elim (λ (q : e ≡ item). let r : e.arrival ≡ a = ap (λ (y : PlanItem). y.arrival) q in omega arith) (λ (m : Has before e). let b = early e m in omega arith) h),
     )
 
 jobs_of-nil : (n : ℕ) → jobs_of n [] ≡ 0
 unfolding jobs_of
 jobs_of-nil n = refl
 
-pub alone_legal : (cost period : ℕ) (times : List ℕ) → 1 ≤ cost → AreApart period times → IsLegal (one_task cost period) (items_from cost 0 times)
+pub alone_legal : (cost period : ℕ) (times : List ℕ) → 1 ≤ cost → TimesAreApart period times → IsLegal (one_task cost period) (items_from cost 0 times)
 alone_legal cost period times some apart = legal_from cost period some 0 0 times [] apart (jobs_of-nil 1) (λ e h. absurd h)
 
 -- a job that costs more than the period misses its deadline, however it runs
 pub overload_misses : (cost period : ℕ) → period < cost → (log : Ticks) → Misses (one_task cost period) (items_from cost 0 (0 ∷ [])) log period
 overload_misses cost period over log =
-    let item : Item = record { job = nth_job 1; arrival = 0; cost = cost } in
+    let item : PlanItem = record { job = nth_job 1; arrival = 0; cost = cost } in
     let tasks = one_task cost period in
     let d = one_task_deadline cost period item refl in
     let w = done_within log item.job (deadline_of tasks item) in
@@ -68,28 +70,28 @@ pub overload_legal : (cost period : ℕ) → 1 ≤ cost → IsLegal (one_task co
 overload_legal cost period some = alone_legal cost period (0 ∷ []) some (omega arith, tt)
 
 -- no job arrives before the start
-pub arrives_from : (cost period n from : ℕ) (times : List ℕ) → AreApartFrom period from times → (item : Item) → Has (items_from cost n times) item → from ≤ item.arrival
+pub arrives_from : (cost period n from : ℕ) (times : List ℕ) → TimesAreApartFrom period from times → (item : PlanItem) → Has (items_from cost n times) item → from ≤ item.arrival
 arrives_from cost period n from [] apart item is = absurd is
 arrives_from cost period n from (a ∷ times) apart item is =
     let come = apart.0 in
     ⊎_elim
-    (λ (e : item ≡ record { job = nth_job (suc n); arrival = a; cost = cost }). let r : item.arrival ≡ a = ap (λ (y : Item). y.arrival) e in omega arith)
+    (λ (e : item ≡ record { job = nth_job (suc n); arrival = a; cost = cost }). let r : item.arrival ≡ a = ap (λ (y : PlanItem). y.arrival) e in omega arith)
     (λ (m : Has (items_from cost (suc n) times) item). let r = arrives_from cost period (suc n) (a + period) times apart.1 item m in omega arith)
     is
 
 -- later numbers arrive later, by the period at least
-pub apart_from : (cost period n from : ℕ) (times : List ℕ) → AreApartFrom period from times → (a b : Item) → Has (items_from cost n times) a → Has (items_from cost n times) b → a.job.number < b.job.number → a.arrival + period ≤ b.arrival
+pub apart_from : (cost period n from : ℕ) (times : List ℕ) → TimesAreApartFrom period from times → (a b : PlanItem) → Has (items_from cost n times) a → Has (items_from cost n times) b → a.job.number < b.job.number → a.arrival + period ≤ b.arrival
 apart_from cost period n from [] apart a b ha hb lt = absurd ha
 apart_from cost period n from (x ∷ times) apart a b ha hb lt =
-    let head : Item = record { job = nth_job (suc n); arrival = x; cost = cost } in
+    let head : PlanItem = record { job = nth_job (suc n); arrival = x; cost = cost } in
     ⊎_elim
     (λ (q : b ≡ head).
-    let s : b.job.number ≡ suc n = ap (λ (y : Item). y.job.number) q in
+    let s : b.job.number ≡ suc n = ap (λ (y : PlanItem). y.job.number) q in
     let r = (one_from cost n (x ∷ times) a ha).number in
     absurd (omega arith))
     (λ (l : Has (items_from cost (suc n) times) b). ⊎_elim
     (λ (p : a ≡ head).
-    let s : a.arrival ≡ x = ap (λ (y : Item). y.arrival) p in
+    let s : a.arrival ≡ x = ap (λ (y : PlanItem). y.arrival) p in
     let r = arrives_from cost period (suc n) (x + period) times apart.1 b l in
     omega arith)
     (λ (m : Has (items_from cost (suc n) times) a). apart_from cost period (suc n) (x + period) times apart.1 a b m l lt)
@@ -97,19 +99,19 @@ apart_from cost period n from (x ∷ times) apart a b ha hb lt =
     hb
 
 -- the jobs begin in the order of the plan
-order_from : (plan : List Item) (log : Ticks) (cost : ℕ) → RunsAtOnce plan log → 1 ≤ cost → (n at : ℕ) (times : List ℕ) →
-    ((item : Item) → Has (items_from cost n times) item → Has plan item) → RunFrom log cost n at times → at ≤ length log →
-    order_of log ≡ begun_below log at ++ map (λ (item : Item). item.job) (items_from cost n times)
+order_from : (plan : List PlanItem) (log : Ticks) (cost : ℕ) → RunsAtOnce plan log → 1 ≤ cost → (n at : ℕ) (times : List ℕ) →
+    ((item : PlanItem) → Has (items_from cost n times) item → Has plan item) → RunFrom log cost n at times → at ≤ length log →
+    order_of log ≡ begun_below log at ++ map (λ (item : PlanItem). item.job) (items_from cost n times)
 order_from plan log cost runs some n at [] within run h =
     begun_stays log at (length log) h (λ v a b. begun_idle log v (run v a)) ∙ sym (append-nil (begun_below log at))
 order_from plan log cost runs some n at (a ∷ times) within run h =
     let j = nth_job (suc n) in
-    let item : Item = record { job = j; arrival = a; cost = cost } in
+    let item : PlanItem = record { job = j; arrival = a; cost = cost } in
     let has = within item (inl refl) in
     let ends = ends_within plan log runs item has some in
     let from = run.0.from in
     let d = done_at_once plan log runs item has a in
-    let rest = map (λ (k : Item). k.job) (items_from cost (suc n) times) in
+    let rest = map (λ (k : PlanItem). k.job) (items_from cost (suc n) times) in
     let before : begun_below log a ≡ begun_below log at = begun_stays log at a from (λ v x y. begun_idle log v (run.0.idle v x y)) in
     let here : begun_below log (suc a) ≡ begun_below log a ++ j ∷ [] = begun_fresh log j a (run.0.busy a (omega arith) (omega arith)) (omega arith) in
     let after : begun_below log (a + cost) ≡ begun_below log (suc a) =
@@ -117,8 +119,8 @@ order_from plan log cost runs some n at (a ∷ times) within run h =
     let more = order_from plan log cost runs some (suc n) (a + cost) times (λ k is. within k (inr is)) run.1 ends in
     more ∙ ap (λ (xs : List Job). xs ++ rest) (after ∙ here ∙ ap (λ (xs : List Job). xs ++ j ∷ []) before) ∙ append_assoc (begun_below log at) (j ∷ []) rest
 
-module _ (cost period : ℕ) (times : List ℕ) (k : ℕ) (some : 1 ≤ cost) (most : cost ≤ period) (apart : AreApart period times) where
-  abbrev the_plan : List Item
+module _ (cost period : ℕ) (times : List ℕ) (k : ℕ) (some : 1 ≤ cost) (most : cost ≤ period) (apart : TimesAreApart period times) where
+  abbrev the_plan : List PlanItem
   the_plan = items_from cost 0 times
 
   abbrev the_log : Ticks
@@ -127,11 +129,11 @@ module _ (cost period : ℕ) (times : List ℕ) (k : ℕ) (some : 1 ≤ cost) (m
   runs : RunsAtOnce the_plan the_log
   runs = alone_at_once cost period times k most apart
 
-  costs_some : (item : Item) → Has the_plan item → 1 ≤ item.cost
+  costs_some : (item : PlanItem) → Has the_plan item → 1 ≤ item.cost
   costs_some item is = let c = (one_from cost 0 times item is).costs in omega arith
 
   -- later numbers arrive later, by the period at least
-  pub alone_apart : (a b : Item) → Has (items_from cost 0 times) a → Has (items_from cost 0 times) b → a.job.number < b.job.number → a.arrival + period ≤ b.arrival
+  pub alone_apart : (a b : PlanItem) → Has (items_from cost 0 times) a → Has (items_from cost 0 times) b → a.job.number < b.job.number → a.arrival + period ≤ b.arrival
   alone_apart = apart_from cost period 0 0 times apart
 
   -- what holds of the jobs of one task that fit its period, and of their log with idle ticks at its end

@@ -1,12 +1,12 @@
 -- The ticks of the logs of one task whose jobs run alone.
-use Rattle.yt_run.specs.declared.job.Job.{Job}
 use Rattle.std.proofs.Common.{◌≡◌, ℕ, suc, ◌+◌, ◌-◌, ◌<◌, ◌≤◌, List, [], ◌∷◌, ◌++◌, length, replicate, Option, Some, None, refl, sym, ap, subst, ◌∙◌, inl, inr, ⊎_elim, arith, append_assoc, length-append}
 use Rattle.std.proofs.lemmas.Bool.{cases_lt}
 use Rattle.std.proofs.lemmas.List.{get_or-append_right, get_or_append_left, get_or-replicate, get_or_past, length-replicate}
-use Rattle.yt_run.specs.Tasks.{Has}
-use Rattle.yt_run.specs.Plan.{Item}
-use Rattle.yt_run.specs.Ticks.{Ticks, tick}
-use Rattle.yt_run.specs.Alone.{nth_job, AreApartFrom, AreApart, items_from, alone_from}
+use Rattle.yt_log.specs.declared.job.Job.{Job}
+use Rattle.yt_log.specs.declared.plan.PlanItem.{PlanItem}
+use Rattle.yt_log.specs.Tasks.{Has}
+use Rattle.yt_log.specs.Ticks.{Ticks, tick}
+use Rattle.yt_run.specs.Alone.{nth_job, TimesAreApartFrom, TimesAreApart, items_from, alone_from}
 use Rattle.yt_run.proofs.AtOnce.{IsInRun, RunsAtOnce}
 
 -- two jobs of two ticks that arrive at 1 and at 4
@@ -66,7 +66,7 @@ alone_step_long cost n a so_far h =
     omega arith
 
 module _ (cost period : ℕ) (most : cost ≤ period) where
-  run_from : (n from : ℕ) (times : List ℕ) (front : Ticks) (k : ℕ) → AreApartFrom period from times → length front ≤ from →
+  run_from : (n from : ℕ) (times : List ℕ) (front : Ticks) (k : ℕ) → TimesAreApartFrom period from times → length front ≤ from →
       RunFrom (front ++ (alone_from cost n (length front) times ++ replicate k None)) cost n (length front) times
   run_from n from [] front k apart h = λ t ge. tick_idle front k t ge
   run_from n from (a ∷ times) front k apart h =
@@ -96,22 +96,22 @@ module _ (cost period : ℕ) (most : cost ≤ period) where
       )
 
   -- the log of jobs that run alone
-  pub alone_runs_from : (times : List ℕ) (k : ℕ) → AreApart period times → RunFrom (alone_from cost 0 0 times ++ replicate k None) cost 0 0 times
+  pub alone_runs_from : (times : List ℕ) (k : ℕ) → TimesAreApart period times → RunFrom (alone_from cost 0 0 times ++ replicate k None) cost 0 0 times
   alone_runs_from times k apart = run_from 0 0 times [] k apart (omega arith)
 
 module _ (log : Ticks) (cost : ℕ) where
-  run_at_once : (n at : ℕ) (times : List ℕ) → RunFrom log cost n at times → (t : ℕ) (item : Item) → Has (items_from cost n times) item → IsInRun t item → tick log t ≡ Some item.job
+  run_at_once : (n at : ℕ) (times : List ℕ) → RunFrom log cost n at times → (t : ℕ) (item : PlanItem) → Has (items_from cost n times) item → IsInRun t item → tick log t ≡ Some item.job
   run_at_once n at [] runs t item is r = absurd is
   run_at_once n at (a ∷ times) runs t item is r =
       ⊎_elim
       (λ (e : item ≡ record { job = nth_job (suc n); arrival = a; cost = cost }).
-      let P : Item → Type 0 = λ y. IsInRun t y → tick log t ≡ Some y.job in
+      let P : PlanItem → Type 0 = λ y. IsInRun t y → tick log t ≡ Some y.job in
       subst P (sym e) (λ q. runs.0.busy t q.from q.to) r)
       (λ (m : Has (items_from cost (suc n) times) item). run_at_once (suc n) (a + cost) times runs.1 t item m r)
       is
 
   run_only : (n at : ℕ) (times : List ℕ) → RunFrom log cost n at times → (t : ℕ) (job : Job) → at ≤ t → tick log t ≡ Some job →
-      (item : Item) × (Has (items_from cost n times) item) × (item.job ≡ job) × IsInRun t item
+      (item : PlanItem) × (Has (items_from cost n times) item) × (item.job ≡ job) × IsInRun t item
   run_only n at [] runs t job h e = let i = runs t h in cc
   run_only n at (a ∷ times) runs t job h e =
       ⊎_elim
@@ -123,45 +123,45 @@ module _ (log : Ticks) (cost : ℕ) where
       (cases_lt t a)
 
 -- what an item of the plan is
-pub record IsOneFrom (cost n : ℕ) (item : Item) : Type 0 where
+pub record IsOneFrom (cost n : ℕ) (item : PlanItem) : Type 0 where
   pub task : item.job.task ≡ 1
   pub number : n < item.job.number
   pub costs : item.cost ≡ cost
 
-pub one_from : (cost n : ℕ) (times : List ℕ) (item : Item) → Has (items_from cost n times) item → IsOneFrom cost n item
+pub one_from : (cost n : ℕ) (times : List ℕ) (item : PlanItem) → Has (items_from cost n times) item → IsOneFrom cost n item
 one_from cost n [] item is = absurd is
 one_from cost n (a ∷ times) item is =
     ⊎_elim
     (λ (e : item ≡ record { job = nth_job (suc n); arrival = a; cost = cost }).
-    let P : Item → Type 0 = λ y. IsOneFrom cost n y in
+    let P : PlanItem → Type 0 = λ y. IsOneFrom cost n y in
     subst P (sym e) (record { task = refl; number = omega arith; costs = refl }))
     (λ (m : Has (items_from cost (suc n) times) item). let r = one_from cost (suc n) times item m in let l = r.number in record { task = r.task; number = omega arith; costs = r.costs })
     is
 
 -- two items of one number are one
-pub one_number : (cost n : ℕ) (times : List ℕ) (a b : Item) → Has (items_from cost n times) a → Has (items_from cost n times) b → a.job.number ≡ b.job.number → a ≡ b
+pub one_number : (cost n : ℕ) (times : List ℕ) (a b : PlanItem) → Has (items_from cost n times) a → Has (items_from cost n times) b → a.job.number ≡ b.job.number → a ≡ b
 one_number cost n [] a b ha hb e = absurd ha
 one_number cost n (x ∷ times) a b ha hb e =
-    let head : Item = record { job = nth_job (suc n); arrival = x; cost = cost } in
+    let head : PlanItem = record { job = nth_job (suc n); arrival = x; cost = cost } in
     ⊎_elim
     (λ (p : a ≡ head). ⊎_elim
     (λ (q : b ≡ head). p ∙ sym q)
     (λ (m : Has (items_from cost (suc n) times) b).
     let r = (one_from cost (suc n) times b m).number in
-    let s : a.job.number ≡ suc n = ap (λ (y : Item). y.job.number) p in
+    let s : a.job.number ≡ suc n = ap (λ (y : PlanItem). y.job.number) p in
     absurd (omega arith))
     hb)
     (λ (m : Has (items_from cost (suc n) times) a). ⊎_elim
     (λ (q : b ≡ head).
     let r = (one_from cost (suc n) times a m).number in
-    let s : b.job.number ≡ suc n = ap (λ (y : Item). y.job.number) q in
+    let s : b.job.number ≡ suc n = ap (λ (y : PlanItem). y.job.number) q in
     absurd (omega arith))
     (λ (l : Has (items_from cost (suc n) times) b). one_number cost (suc n) times a b m l e)
     hb)
     ha
 
 -- each job runs in the ticks from its arrival on
-pub alone_at_once : (cost period : ℕ) (times : List ℕ) (k : ℕ) → cost ≤ period → AreApart period times → RunsAtOnce (items_from cost 0 times) (alone_from cost 0 0 times ++ replicate k None)
+pub alone_at_once : (cost period : ℕ) (times : List ℕ) (k : ℕ) → cost ≤ period → TimesAreApart period times → RunsAtOnce (items_from cost 0 times) (alone_from cost 0 0 times ++ replicate k None)
 alone_at_once cost period times k most apart =
     let log = alone_from cost 0 0 times ++ replicate k None in
     let runs = alone_runs_from cost period most times k apart in

@@ -1,92 +1,15 @@
 -- How much of a job is done, tick by tick, and its first tick.
-use Rattle.yt_run.specs.declared.job.Job.{Job}
-use Rattle.std.proofs.Common.{◌≡◌, ℕ, zero, suc, ◌+◌, ◌<◌, ◌≤◌, ◌⊎◌, true, false, cond, eqb, Option, Some, None, refl, sym, ap, ap₂, subst, ◌∙◌, inl, inr, ⊎_elim, arith, eqb-true, eq-eqb, ne_eqb, List, [], ◌∷◌, ◌++◌, length, is_some, append-nil, max, zero-le}
-use Rattle.std.proofs.lemmas.Bool.{cases_Bool, cases_lt, false_from_ne_true, cond-true, cond-false, both_ways, and_parts, and_from}
-use Rattle.std.proofs.lemmas.List.{get_or_past}
-use Rattle.yt_run.specs.Plan.{same_job}
-use Rattle.yt_run.specs.Ticks.{Ticks, tick, names, done, first_tick, newcomer, begun_below, busy_until}
-
-pub same_job_true : (a b : Job) → same_job a b ≡ true → a ≡ b
-unfolding same_job
-same_job_true a b h =
-    let parts = and_parts (eqb a.task b.task) (eqb a.number b.number) h in
-    let made : ℕ → ℕ → Job = λ t n. record { task = t; number = n } in
-    ap₂ made (eqb-true a.task b.task parts.0) (eqb-true a.number b.number parts.1)
-
-pub same_job_refl : (a : Job) → same_job a a ≡ true
-unfolding same_job
-same_job_refl a = and_from (eqb a.task a.task) (eqb a.number a.number) (eq-eqb a.task a.task refl) (eq-eqb a.number a.number refl)
-
-pub names_true : (o : Option Job) (j : Job) → names o j ≡ true → o ≡ Some j
-unfolding names
-names_true None j h = cc
-names_true (Some k) j h = ap (λ (x : Job). Some x) (same_job_true k j h)
-
-pub names_some : (o : Option Job) (j : Job) → o ≡ Some j → names o j ≡ true
-unfolding names
-names_some o j e = let P : Option Job → Type 0 = λ x. names x j ≡ true in subst P (sym e) (same_job_refl j)
-
-pub tick_past : (log : Ticks) (t : ℕ) → length log ≤ t → tick log t ≡ None
-unfolding tick
-tick_past log t h = get_or_past log t None h
-
--- a tick that goes to a job is one of the log
-pub below_end : (log : Ticks) (t : ℕ) (j : Job) → tick log t ≡ Some j → t < length log
-below_end log t j e =
-    ⊎_elim (λ (lt : t < length log). lt) (λ (ge : length log ≤ t). let p = tick_past log t ge in cc) (cases_lt t (length log))
-
-pub done-zero : (log : Ticks) (j : Job) → done log j 0 ≡ 0
-unfolding done
-done-zero log j = refl
-
-pub done-suc : (log : Ticks) (j : Job) (t : ℕ) → done log j (suc t) ≡ done log j t + cond (names (tick log t) j) 1 0
-unfolding done
-done-suc log j t = refl
-
--- a tick that goes to the job
-pub done_yes : (log : Ticks) (j : Job) (t : ℕ) → tick log t ≡ Some j → done log j (suc t) ≡ suc (done log j t)
-done_yes log j t e =
-    let c : cond {A = ℕ} (names (tick log t) j) 1 0 ≡ 1 = cond-true (names (tick log t) j) 1 0 (names_some (tick log t) j e) in
-    let s = done-suc log j t in
-    omega arith
-
--- a tick that does not go to the job
-pub done_no : (log : Ticks) (j : Job) (t : ℕ) → (tick log t ≡ Some j → ⊥) → done log j (suc t) ≡ done log j t
-done_no log j t never =
-    let c : cond {A = ℕ} (names (tick log t) j) 1 0 ≡ 0 = cond-false (names (tick log t) j) 1 0 (false_from_ne_true (names (tick log t) j) (λ h. never (names_true (tick log t) j h))) in
-    let s = done-suc log j t in
-    omega arith
-
-pub tick_or_not : (log : Ticks) (j : Job) (t : ℕ) → (tick log t ≡ Some j) ⊎ (tick log t ≡ Some j → ⊥)
-tick_or_not log j t = ⊎_elim (λ h. inl (names_true (tick log t) j h)) (λ h. inr (λ e. both_ways (names (tick log t) j) h (names_some (tick log t) j e))) (cases_Bool (names (tick log t) j))
-
-pub done_step : (log : Ticks) (j : Job) (t : ℕ) → (done log j t ≤ done log j (suc t)) × (done log j (suc t) ≤ suc (done log j t))
-done_step log j t =
-    ⊎_elim
-    (λ (e : tick log t ≡ Some j). let s = done_yes log j t e in omega arith)
-    (λ (never : tick log t ≡ Some j → ⊥). let s = done_no log j t never in omega arith)
-    (tick_or_not log j t)
-
-pub done_grows : (log : Ticks) (j : Job) (t u : ℕ) → t ≤ u → done log j t ≤ done log j u
-done_grows log j t zero h = let e : t ≡ 0 = omega arith in let P : ℕ → Type 0 = λ x. done log j x ≤ done log j 0 in subst P (sym e) (omega arith)
-done_grows log j t (suc u) h =
-    ⊎_elim
-    (λ (lt : t < suc u). let g = done_grows log j t u (omega arith) in let s = done_step log j u in omega arith)
-    (λ (ge : suc u ≤ t). let e : t ≡ suc u = omega arith in let P : ℕ → Type 0 = λ x. done log j x ≤ done log j (suc u) in subst P (sym e) (omega arith))
-    (cases_lt t (suc u))
+use Rattle.std.proofs.Common.{◌≡◌, ℕ, zero, suc, ◌<◌, ◌≤◌, true, false, cond, eqb, Option, Some, None, refl, ap, ◌∙◌, ⊎_elim, arith, eq-eqb, ne_eqb, List, [], ◌∷◌, ◌++◌, length, is_some, append-nil, max, zero-le}
+use Rattle.std.proofs.lemmas.Bool.{cases_Bool, cases_lt, cond-true, cond-false}
+use Rattle.yt_log.specs.declared.job.Job.{Job}
+use Rattle.yt_log.specs.Ticks.{Ticks, tick, done, first_tick}
+use Rattle.yt_log.proofs.Ticks.{done-zero, done_yes, done_step, done_grows, first-suc_zero, first-suc}
+use Rattle.yt_run.specs.Beginnings.{newcomer, begun_below, busy_until}
 
 -- no job is done faster than time goes by
 pub done_within : (log : Ticks) (j : Job) (t : ℕ) → done log j t ≤ t
 done_within log j zero = let z = done-zero log j in omega arith
 done_within log j (suc t) = let s = done_step log j t in let w = done_within log j t in omega arith
-
-pub first-suc_zero : (log : Ticks) (j : Job) (t : ℕ) → done log j t ≡ 0 → first_tick log j (suc t) ≡ t
-unfolding first_tick
-first-suc_zero log j t e = cond-true (eqb (done log j t) 0) t (first_tick log j t) (eq-eqb (done log j t) 0 e)
-
-pub first-suc : (log : Ticks) (j : Job) (t : ℕ) → 0 < done log j t → first_tick log j (suc t) ≡ first_tick log j t
-unfolding first_tick
-first-suc log j t h = cond-false (eqb (done log j t) 0) t (first_tick log j t) (ne_eqb (done log j t) 0 (λ e. absurd (omega arith)))
 
 -- a tick that goes to a job of which nothing is done is its first
 pub first_tick_at : (log : Ticks) (j : Job) (b t : ℕ) → tick log b ≡ Some j → done log j b ≡ 0 → b < t → first_tick log j t ≡ b

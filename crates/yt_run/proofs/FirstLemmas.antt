@@ -4,10 +4,9 @@ use Rattle.std.specs.Prelude.{ℤ, ◌+ℤ◌}
 use Rattle.std.specs.Int.{int_wrap, w64}
 use Rattle.yt_graph.specs.declared.expr.Op2.{Op2}
 use Rattle.yt_graph.specs.declared.expr.Op2.TheVariants.{Add}
-use Rattle.yt_graph.specs.Picture.{ExprTree, two, no_exprs, more_exprs, send, empty, more, GraphTree, PortTree}
 use Rattle.yt_graph.specs.Meaning.{expr_ticks, expr_value, two_value}
-use Rattle.yt_run.specs.First.{Operand, the_message, the_number, leaf, sum_after, port_of, IsFirstGraph, IsSum, IsSent}
-use Rattle.yt_run.specs.Serial.{the_port}
+use Rattle.yt_graph.specs.Picture.{ExprTree, two, no_exprs, more_exprs, send, empty, more, GraphTree, PortTree}
+use Rattle.yt_run.specs.First.{Operand, the_message, the_number, leaf, sum_after, port_of, the_port, IsFirstGraph, IsSum, IsSent}
 
 leaf_is_sum : (x : Operand) → IsSum (leaf x) × (expr_ticks (leaf x) ≡ 1)
 leaf_is_sum the_message = (refl, refl)

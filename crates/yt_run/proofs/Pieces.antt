@@ -6,8 +6,8 @@ use Rattle.std.specs.Int.Signed.{mag}
 use Rattle.std.proofs.lemmas.Grind.{common_steps}
 use Rattle.std.proofs.lemmas.List.Sums.{AllPass-from_list_all, list_all-from_AllPass}
 use Rattle.yt_base.proofs.Decimals.{decimal_passes, signed_decimal_passes}
-use Rattle.yt_run.specs.RunText.{parts_between}
 use Rattle.yt_run.specs.Readable.{is_not, stays_in_word}
+use Rattle.yt_run.specs.RunText.{parts_between}
 
 -- a piece and the byte behind it
 pub parts_between-piece : (c : ℕ) (piece rest : List ℕ) → list_all (is_not c) piece ≡ true → parts_between c (piece ++ c ∷ rest) ≡ piece ∷ parts_between c rest

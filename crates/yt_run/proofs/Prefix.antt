@@ -1,8 +1,9 @@
 -- What is told of a log's ticks below t goes by those ticks alone, so a log that grows keeps it.
-use Rattle.yt_run.specs.declared.job.Job.{Job}
 use Rattle.std.proofs.Common.{◌≡◌, ℕ, zero, suc, ◌+◌, ◌<◌, ◌≤◌, cond, eqb, List, [], ◌∷◌, ◌++◌, length, Option, Some, None, is_some, refl, ap, ap₂, ◌∙◌, arith}
 use Rattle.std.proofs.lemmas.List.{get_or_append_left}
-use Rattle.yt_run.specs.Ticks.{Ticks, tick, names, done, first_tick, newcomer, begun_below, busy_until}
+use Rattle.yt_log.specs.declared.job.Job.{Job}
+use Rattle.yt_log.specs.Ticks.{Ticks, tick, names, done, first_tick}
+use Rattle.yt_run.specs.Beginnings.{newcomer, begun_below, busy_until}
 
 -- two logs have the same ticks below t
 abbrev pub Agree : Ticks → Ticks → ℕ → Type 0

@@ -5,8 +5,8 @@ use Rattle.std.specs.Prelude.{bytes_eq}
 use Rattle.std.proofs.lemmas.Bool.{false_from_ne_true}
 use Rattle.std.proofs.lemmas.List.{get_or-map, length-map}
 use Rattle.std.proofs.lemmas.Slice.Eq.{bytes_eq-Decides}
-use Rattle.yt_run.specs.RunText.{number_in}
 use Rattle.yt_run.specs.Readable.{stays_in_word, AreDistinctWords}
+use Rattle.yt_run.specs.RunText.{number_in}
 
 -- the number of the name at a place
 number_in-at : (names : List (List ℕ)) (k : ℕ) → AllPairs (λ a b. a ≢ b) names → k < length names → number_in names (get_or names k []) ≡ suc k

@@ -6,12 +6,12 @@ use Rattle.std.specs.Fmt.{decimal, signed_decimal}
 use Rattle.std.proofs.lemmas.List.{append-nil}
 use Rattle.std.proofs.lemmas.List.Elements.{All-head, All-tail, filter_map-append}
 use Rattle.yt_graph.specs.Picture.{GraphTree}
-use Rattle.yt_run.specs.declared.job.Segment.{Segment}
+use Rattle.yt_log.specs.declared.job.Segment.{Segment}
+use Rattle.yt_log.specs.Segments.{segments_of, ticks_of}
+use Rattle.yt_log.specs.Ticks.{Ticks}
 use Rattle.yt_run.specs.declared.told.OutLine.{OutLine}
-use Rattle.yt_run.specs.Ticks.{Ticks}
-use Rattle.yt_run.specs.Segments.{segments_of, ticks_of}
-use Rattle.yt_run.specs.RunText.{ReadBack, segment_line, out_line, out_lines, end_line, around_segment, told_text, run_text, output_name, read_segment, read_out, read_end, line_fields, first_or_zero, read_back}
 use Rattle.yt_run.specs.Readable.{HasReadableNames}
+use Rattle.yt_run.specs.RunText.{ReadBack, segment_line, out_line, out_lines, end_line, around_segment, told_text, run_text, output_name, read_segment, read_out, read_end, line_fields, first_or_zero, read_back}
 use Rattle.yt_run.proofs.PrintedLines.{IsReadableJob, IsReadableSegment, IsReadableLine, segment_fields, out_fields, end_fields, line_fields-segment_line, line_fields-out_line, line_fields-end_line, read_segment-segment_fields, read_out-out_fields, read_end-end_fields}
 use Rattle.yt_run.proofs.ReadBackSegments.{segments_of-IsSegmentBelow}
 

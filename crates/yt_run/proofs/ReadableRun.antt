@@ -6,35 +6,34 @@ use Rattle.std.proofs.lemmas.List.Elements.{All-push}
 use Rattle.std.specs.List.{All}
 use Rattle.std.proofs.lemmas.Grind.{common_steps}
 use Rattle.std.proofs.Math.ListN.{length-map}
-use Rattle.yt_graph.specs.Picture.{ExprTree, GraphTree}
 use Rattle.yt_graph.specs.Cost.{greatest_cost}
-use Rattle.yt_run.specs.declared.trace.Message.{Message}
+use Rattle.yt_graph.specs.Picture.{ExprTree, GraphTree}
+use Rattle.yt_log.specs.declared.plan.PlanItem.{PlanItem}
+use Rattle.yt_log.specs.Segments.{segments_of}
+use Rattle.yt_log.specs.Tasks.{Has}
+use Rattle.yt_log.specs.Ticks.{Ticks, IsLawful}
+use Rattle.yt_log.proofs.SegmentLemmas.{ticks_of-segments_of}
 use Rattle.yt_run.specs.declared.told.OutLine.{OutLine}
+use Rattle.yt_run.specs.declared.trace.Message.{Message}
 use Rattle.yt_run.specs.Alone.{alone_from, items_from, nth_job}
-use Rattle.yt_run.specs.First.{IsFirstGraph, FitsFirst, KeepsPeriod, line_with}
-use Rattle.yt_run.specs.Plan.{Item}
+use Rattle.yt_run.specs.First.{the_port, the_period, IsFirstGraph, FitsFirst, KeepsPeriod, line_with}
 use Rattle.yt_run.specs.Readable.{HasReadableNames}
 use Rattle.yt_run.specs.RunText.{run_text, read_back}
-use Rattle.yt_run.specs.Segments.{segments_of}
-use Rattle.yt_run.specs.Serial.{the_port, period_of}
-use Rattle.yt_run.specs.Tasks.{Has}
-use Rattle.yt_run.specs.Ticks.{Ticks, IsLawful}
 use Rattle.yt_run.proofs.Alone.{alone_holds}
 use Rattle.yt_run.proofs.AloneTicks.{one_from}
 use Rattle.yt_run.proofs.PrintedLines.{IsReadableJob, IsReadableLine}
 use Rattle.yt_run.proofs.ReadBack.{read_back-run_text}
 use Rattle.yt_run.proofs.ReadBackSegments.{segments_of-jobs}
 use Rattle.yt_run.proofs.Running.{IsUnderWay, times_apart}
-use Rattle.yt_run.proofs.SegmentLemmas.{ticks_of-segments_of}
 use Rattle.yt_run.proofs.SerialLemmas.{times_of, cost_of}
 
 -- no number passes the number of jobs
-few_from : (cost n : ℕ) (times : List ℕ) (item : Item) → Has (items_from cost n times) item → item.job.number ≤ n + length times
+few_from : (cost n : ℕ) (times : List ℕ) (item : PlanItem) → Has (items_from cost n times) item → item.job.number ≤ n + length times
 few_from cost n [] item is = absurd is
 few_from cost n (a ∷ times) item is =
     ⊎_elim
     (λ (e : item ≡ record { job = nth_job (suc n); arrival = a; cost = cost }).
-    let P : Item → Type 0 = λ y. y.job.number ≤ n + suc (length times) in
+    let P : PlanItem → Type 0 = λ y. y.job.number ≤ n + suc (length times) in
     subst P (sym e) (omega arith))
     (λ (m : Has (items_from cost (suc n) times) item). let r = few_from cost (suc n) times item m in omega arith)
     is
@@ -49,7 +48,7 @@ lone_jobs cost times log few lawful = segments_of-jobs (IsReadableJob 1) log (λ
     subst (IsReadableJob 1) is (record { from_one = omega arith; in_set = omega arith; number = omega arith }))
 
 pub ends_readable : (graph : GraphTree) (cost period : ℕ) (e : ExprTree) (trace items : List Message) (n : ℕ) (log idle : Ticks) (outs : List OutLine) (end : ℕ) →
-    IsFirstGraph graph → FitsFirst graph → KeepsPeriod graph trace → cost ≡ greatest_cost (the_port graph) → period ≡ period_of graph →
+    IsFirstGraph graph → FitsFirst graph → KeepsPeriod graph trace → cost ≡ greatest_cost (the_port graph) → period ≡ the_period graph →
     items ≡ trace → length items ≤ n → IsUnderWay cost period e items (drop n items) n log outs end → idle ≡ log ++ replicate (end - length log) None →
     All (IsReadableLine 1) outs → HasReadableNames graph → read_back graph (run_text graph idle outs) ≡ record { log = idle; lines = outs }
 ends_readable graph cost period e trace items n log idle outs end (d, range, is) fits keeps cost_is period_is same all h idle_is lines names =

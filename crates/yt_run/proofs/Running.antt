@@ -3,24 +3,31 @@ use Rattle.std.proofs.Common.{◌≡◌, ℕ, suc, ◌+◌, ◌-◌, ◌<◌, �
 use Rattle.std.specs.Prelude.{replicate}
 use Rattle.std.specs.Option.{option_map_or}
 use Rattle.std.proofs.lemmas.Grind.{common_steps}
-use Rattle.yt_graph.specs.Picture.{ExprTree, GraphTree, PortTree}
+use Rattle.std.proofs.lemmas.List.{length-map}
 use Rattle.yt_graph.specs.Cost.{greatest_cost}
-use Rattle.yt_run.specs.declared.trace.Message.{Message}
+use Rattle.yt_graph.specs.Picture.{ExprTree, GraphTree, PortTree}
+use Rattle.yt_log.specs.declared.plan.PlanItem.{PlanItem}
+use Rattle.yt_log.specs.EdfDdm.{IsEdfDdm}
+use Rattle.yt_log.specs.Order.{sort_by}
+use Rattle.yt_log.specs.Patterns.{item_before}
+use Rattle.yt_log.specs.Plan.{IsLegal, jobs_of}
+use Rattle.yt_log.specs.Tasks.{Has}
+use Rattle.yt_log.specs.Ticks.{Ticks, done, IsLawful, IsWorkConserving, IsExclusive, KeepsDeadlines}
+use Rattle.yt_log.proofs.Appends.{jobs_none}
+use Rattle.yt_rates.specs.Tables.{tasks_of}
 use Rattle.yt_run.specs.declared.told.OutLine.{OutLine}
-use Rattle.yt_run.specs.Alone.{AreApart, AreApartFrom, alone_from, items_from, nth_job, one_task, RunsAlone}
-use Rattle.yt_run.specs.First.{First, IsFirstGraph, IsSent, FitsFirst, KeepsPeriod, AreFirstMessages, AreSpaced, graph_of, port_of, leaf, sum_after, line_with}
-use Rattle.yt_run.specs.Order.{sort_by}
-use Rattle.yt_run.specs.Plan.{Item, IsLegal}
-use Rattle.yt_run.specs.Serial.{Serial, the_port, period_of, task_set, item_before, line_before, nothing_handled, serial_run, handled_along, plan_of_log}
-use Rattle.yt_run.specs.EdfDdm.{IsEdfDdm}
-use Rattle.yt_run.specs.Tasks.{Has}
-use Rattle.yt_run.specs.Ticks.{Ticks, order_of, done, IsLawful, IsWorkConserving, IsExclusive, KeepsDeadlines}
-use Rattle.yt_run.specs.Told.{latest, BeginsInOrder, NoneReplaced, IsPromisedRun}
-use Rattle.yt_run.proofs.Alone.{alone_holds}
+use Rattle.yt_run.specs.declared.trace.Message.{Message}
+use Rattle.yt_run.specs.Alone.{TimesAreApart, TimesAreApartFrom, alone_from, items_from, nth_job, one_task, RunsAlone}
+use Rattle.yt_run.specs.Beginnings.{order_of}
+use Rattle.yt_run.specs.First.{First, the_port, the_period, IsFirstGraph, IsSent, FitsFirst, KeepsPeriod, AreFirstMessages, AreSpaced, graph_of, port_of, leaf, sum_after, line_with}
+use Rattle.yt_run.specs.PortMessages.{PortMessage}
+use Rattle.yt_run.specs.SerialHandling.{Handled, Serial, messages_at, handled_of, start, serial_run, plan_of, handled_along, plan_of_log}
+use Rattle.yt_run.specs.Told.{line_before, latest, AllHandled, BeginsInOrder, NoneReplaced, IsPromisedRun}
+use Rattle.yt_run.proofs.Alone.{jobs_of-one, alone_holds}
 use Rattle.yt_run.proofs.AloneTicks.{alone_step, alone_step_long}
 use Rattle.yt_run.proofs.Done.{length_is_end}
 use Rattle.yt_run.proofs.FirstLemmas.{sent_is_one}
-use Rattle.yt_run.proofs.SerialLemmas.{times_of, lines_of, cost_of, jobs_from, handles_all, messages_are_all}
+use Rattle.yt_run.proofs.SerialLemmas.{times_of, lines_of, cost_of, jobs_from, at_port, handled_from, items_handled, come, handles_all, messages_are_all}
 use Rattle.yt_run.proofs.Sorted.{sort_by-in_order, items_in_order, lines_in_order}
 
 abbrev shown_with : ExprTree → ℕ → List Message → List OutLine
@@ -32,16 +39,16 @@ pub record IsUnderWay (cost period : ℕ) (e : ExprTree) (trace left : List Mess
   pub lines : outs ++ shown_with e period left ≡ shown_with e period trace
   pub ended : latest outs ≡ end
   pub short : length log ≤ end
-  pub apart : AreApartFrom period end (times_of left)
+  pub apart : TimesAreApartFrom period end (times_of left)
   pub messages : AreFirstMessages left
   pub soon : end ≤ 5000000
 
 -- a spaced trace's times are apart
-spaced_from : (period from : ℕ) (trace : List Message) → AreSpaced period trace → (m : Message) → from ≤ m.time → AreSpaced period (m ∷ trace) → AreApartFrom period from (times_of (m ∷ trace))
+spaced_from : (period from : ℕ) (trace : List Message) → AreSpaced period trace → (m : Message) → from ≤ m.time → AreSpaced period (m ∷ trace) → TimesAreApartFrom period from (times_of (m ∷ trace))
 spaced_from period from [] s m h t = (h, tt)
 spaced_from period from (n ∷ trace) s m h t = (h, spaced_from period (m.time + period) trace s.1 n t.0 s)
 
-pub times_apart : (period : ℕ) (trace : List Message) → AreSpaced period trace → AreApart period (times_of trace)
+pub times_apart : (period : ℕ) (trace : List Message) → AreSpaced period trace → TimesAreApart period (times_of trace)
 times_apart period [] s = tt
 times_apart period (m ∷ trace) s = spaced_from period 0 trace s.1 m (omega arith) s
 
@@ -83,15 +90,28 @@ goes_on cost period e trace m rest i log outs end most few h =
       soon = omega arith;
     }
 
+-- where serial handling comes with all messages
+abbrev all_come : First → List Message → Serial
+all_come d trace = come (map at_port trace) (handled_from d 0 trace) (lines_of d trace)
+
 -- all messages
-handled_all : (d : First) (trace : List Message) (log : Ticks) → AreFirstMessages trace → order_of log ≡ jobs_from d 0 trace →
-    handled_along (graph_of d) trace log ≡ Some (record { handled = length trace; items = items_from (cost_of d) 0 (times_of trace); lines = lines_of d trace })
+handled_all : (d : First) (trace : List Message) (log : Ticks) → AreFirstMessages trace → order_of log ≡ jobs_from d 0 trace → handled_along (graph_of d) trace log ≡ Some (all_come d trace)
 handled_all d trace log messages order =
     let all = messages_are_all trace messages in
-    let run = handles_all d trace [] trace 0 nothing_handled all refl refl in
-    let count : 0 + length trace ≡ length trace = omega arith in
-    ap (λ jobs. serial_run (graph_of d) trace jobs nothing_handled) order ∙ run
-    ∙ ap (λ (n : ℕ). Some (record { handled = n; items = items_from (cost_of d) 0 (times_of trace); lines = lines_of d trace })) count
+    ap (λ jobs. serial_run (graph_of d) jobs (start (graph_of d) trace)) order
+    ∙ ap (λ (ms : List PortMessage). serial_run (graph_of d) (jobs_from d 0 trace) (come ms [] [])) all
+    ∙ handles_all d (map at_port trace) [] trace [] [] 0 refl refl (jobs_none 1)
+
+jobs_of-all : (cost n : ℕ) (times : List ℕ) → jobs_of 1 (items_from cost n times) ≡ length times
+jobs_of-all cost n [] = jobs_none 1
+jobs_of-all cost n (a ∷ times) = jobs_of-one (record { job = nth_job (suc n); arrival = a; cost = cost }) (items_from cost (suc n) times) refl ∙ ap suc (jobs_of-all cost (suc n) times)
+
+all_handled : (d : First) (trace : List Message) → AllHandled (graph_of d) (all_come d trace)
+all_handled d trace port from_one in_graph =
+    let one : 1 ≡ port = omega arith in
+    let count : jobs_of 1 (map (λ (h : Handled). h.item) (handled_from d 0 trace)) ≡ length (map at_port trace) =
+    ap (jobs_of 1) (items_handled d 0 trace) ∙ jobs_of-all (cost_of d) 0 (times_of trace) ∙ length-map trace (λ (m : Message). m.time) ∙ sym (length-map trace at_port) in
+    subst (λ (n : ℕ). handled_of (all_come d trace) n ≡ length (messages_at (all_come d trace) n)) one count
 
 -- the run's promises, by the plan that its jobs make
 promised : (d : First) (trace : List Message) (log : Ticks) (lines : List OutLine) →
@@ -103,26 +123,25 @@ promised d trace log lines keeps run shown end =
     let graph = graph_of d in
     let apart = times_apart d.period trace keeps.spaced in
     let along = handled_all d trace log keeps.messages run.order in
-    let serial : Serial = record { handled = length trace; items = plan; lines = lines_of d trace } in
     let planned : plan_of_log graph trace log ≡ plan =
-    ap (λ (o : Option Serial). option_map_or (λ (s : Serial). sort_by item_before s.items) o []) along ∙ sort_by-in_order item_before plan (items_in_order cost d.period (times_of trace) apart) in
+    ap (λ (o : Option Serial). option_map_or plan_of o []) along ∙ ap (sort_by item_before) (items_handled d 0 trace) ∙ sort_by-in_order item_before plan (items_in_order cost d.period (times_of trace) apart) in
     let back : plan ≡ plan_of_log graph trace log = sym planned in
     record {
       tells = record {
-        serial = serial;
+        serial = all_come d trace;
         along = along;
-        all = ap length (sym (messages_are_all trace keeps.messages));
+        all = all_handled d trace;
         lawful = subst (λ p. IsLawful p log) back run.lawful;
-        finished = subst (λ p. (item : Item) → Has p item → done log item.job (length log) ≡ item.cost) back run.finished;
+        finished = subst (λ p. (item : PlanItem) → Has p item → done log item.job (length log) ≡ item.cost) back run.finished;
         in_order = subst (λ p. BeginsInOrder p log) back run.in_order;
         shown = shown ∙ sym (sort_by-in_order line_before (lines_of d trace) (lines_in_order d d.period trace apart));
         ends = length_is_end log (latest lines) end;
       };
-      legal = subst (λ p. IsLegal (task_set graph) p) back run.legal;
-      edf_ddm = subst (λ p. IsEdfDdm (task_set graph) p log) back run.edf_ddm;
+      legal = subst (λ p. IsLegal (tasks_of graph) p) back run.legal;
+      edf_ddm = subst (λ p. IsEdfDdm (tasks_of graph) p log) back run.edf_ddm;
       work_conserving = subst (λ p. IsWorkConserving p log) back run.work_conserving;
-      exclusive = subst (λ p. IsExclusive (task_set graph) p log) back run.exclusive;
-      deadlines = λ h. subst (λ p. KeepsDeadlines (task_set graph) p log h) back (run.deadlines h);
+      exclusive = subst (λ p. IsExclusive (tasks_of graph) p log) back run.exclusive;
+      deadlines = λ h. subst (λ p. KeepsDeadlines (tasks_of graph) p log h) back (run.deadlines h);
       none_replaced = subst (λ p. NoneReplaced p log) back run.none_replaced;
     }
 
@@ -141,12 +160,12 @@ ends_at d trace n log outs end fits keeps h =
 
 -- what was told of all messages, and idle ticks up to the end
 pub ends_promised : (graph : GraphTree) (port : PortTree) (cost period : ℕ) (e : ExprTree) (trace : List Message) (n : ℕ) (log : Ticks) (outs : List OutLine) (end : ℕ) →
-    IsFirstGraph graph → FitsFirst graph → KeepsPeriod graph trace → cost ≡ greatest_cost (the_port graph) → period ≡ period_of graph → port ≡ the_port graph → IsSent e port →
+    IsFirstGraph graph → FitsFirst graph → KeepsPeriod graph trace → cost ≡ greatest_cost (the_port graph) → period ≡ the_period graph → port ≡ the_port graph → IsSent e port →
     IsUnderWay cost period e trace [] n log outs end → IsPromisedRun graph trace (log ++ replicate (end - length log) None) outs
 ends_promised graph port cost period e trace n log outs end (d, range, is) fits keeps cost_is period_is port_is sent h =
     let sum = sum_after (leaf d.operand) d.operands in
     let cost_here : cost ≡ cost_of d = cost_is ∙ ap (λ g. greatest_cost (the_port g)) is in
-    let period_here : period ≡ d.period = period_is ∙ ap period_of is in
+    let period_here : period ≡ d.period = period_is ∙ ap the_period is in
     let sum_here : e ≡ sum = sent_is_one e sum (port_of d) (subst (IsSent e) (port_is ∙ ap the_port is) sent) refl in
     let fits_here : cost_of d ≤ d.period = subst FitsFirst is fits in
     let by_cost = subst (λ (c : ℕ). IsUnderWay c period e trace [] n log outs end) cost_here h in
@@ -157,7 +176,7 @@ ends_promised graph port cost period e trace n log outs end (d, range, is) fits 
 
 -- a run begins, by what its parts are equal to
 pub begins_at : (graph : GraphTree) (cost period : ℕ) (e : ExprTree) (trace items : List Message) (log : Ticks) (outs : List OutLine) →
-    KeepsPeriod graph trace → period ≡ period_of graph → items ≡ trace → log ≡ [] → outs ≡ [] → IsUnderWay cost period e items items 0 log outs 0
+    KeepsPeriod graph trace → period ≡ the_period graph → items ≡ trace → log ≡ [] → outs ≡ [] → IsUnderWay cost period e items items 0 log outs 0
 begins_at graph cost period e trace items log outs keeps p i l o =
     let spaced = subst (λ (n : ℕ). AreSpaced n trace) (sym p) keeps.spaced in
     let here = begins cost period e items (subst AreFirstMessages (sym i) keeps.messages) (subst (AreSpaced period) (sym i) spaced) in
@@ -182,7 +201,7 @@ goes_on_at cost period e items m i log idle run outs shown line end most few ins
 
 -- a run of all messages keeps its promises, by what its parts are equal to
 pub ends_at_last : (graph : GraphTree) (port : PortTree) (cost period : ℕ) (e : ExprTree) (trace items : List Message) (n : ℕ) (log idle : Ticks) (outs : List OutLine) (end : ℕ) →
-    IsFirstGraph graph → FitsFirst graph → KeepsPeriod graph trace → cost ≡ greatest_cost (the_port graph) → period ≡ period_of graph → port ≡ the_port graph → IsSent e port →
+    IsFirstGraph graph → FitsFirst graph → KeepsPeriod graph trace → cost ≡ greatest_cost (the_port graph) → period ≡ the_period graph → port ≡ the_port graph → IsSent e port →
     items ≡ trace → length items ≤ n → IsUnderWay cost period e items (drop n items) n log outs end → idle ≡ log ++ replicate (end - length log) None →
     IsPromisedRun graph trace idle outs
 ends_at_last graph port cost period e trace items n log idle outs end first fits keeps c p q sent is all h idle_is =

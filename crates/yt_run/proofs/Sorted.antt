@@ -2,11 +2,12 @@
 use Rattle.std.proofs.Common.{◌≡◌, ℕ, suc, ◌+◌, Bool, false, List, [], ◌∷◌, refl, ap, ◌∙◌, arith}
 use Rattle.std.proofs.lemmas.Bool.{cond-false}
 use Rattle.std.proofs.lemmas.Bool.Decides.{nat_tests}
+use Rattle.yt_log.specs.Order.{insert_by, sort_by}
+use Rattle.yt_log.specs.Patterns.{item_before}
 use Rattle.yt_run.specs.declared.trace.Message.{Message}
-use Rattle.yt_run.specs.Alone.{AreApartFrom, AreApart, items_from}
-use Rattle.yt_run.specs.Order.{insert_by, sort_by}
+use Rattle.yt_run.specs.Alone.{TimesAreApartFrom, TimesAreApart, items_from}
 use Rattle.yt_run.specs.First.{First}
-use Rattle.yt_run.specs.Serial.{item_before, line_before}
+use Rattle.yt_run.specs.Told.{line_before}
 use Rattle.yt_run.proofs.SerialLemmas.{lines_of, times_of}
 
 -- the first of these, where there is one, doesn't stand before x
@@ -27,22 +28,22 @@ pub sort_by-in_order : {X : Type 0} (before : X → X → Bool) (xs : List X) �
 sort_by-in_order before [] h = refl
 sort_by-in_order before (x ∷ xs) h = ap (insert_by before x) (sort_by-in_order before xs h.1) ∙ insert_first before x xs h.0
 
-items_in_order_from : (cost period n from : ℕ) (times : List ℕ) → AreApartFrom period from times → IsInOrder item_before (items_from cost n times)
+items_in_order_from : (cost period n from : ℕ) (times : List ℕ) → TimesAreApartFrom period from times → IsInOrder item_before (items_from cost n times)
 items_in_order_from cost period n from [] h = tt
 items_in_order_from cost period n from (a ∷ []) h = (tt, tt)
 items_in_order_from cost period n from (a ∷ b ∷ times) h =
     (grind (arith, nat_tests), items_in_order_from cost period (suc n) (a + period) (b ∷ times) h.1)
 
 -- jobs at successive times are in order
-pub items_in_order : (cost period : ℕ) (times : List ℕ) → AreApart period times → IsInOrder item_before (items_from cost 0 times)
+pub items_in_order : (cost period : ℕ) (times : List ℕ) → TimesAreApart period times → IsInOrder item_before (items_from cost 0 times)
 items_in_order cost period times h = items_in_order_from cost period 0 0 times h
 
-lines_in_order_from : (d : First) (period from : ℕ) (trace : List Message) → AreApartFrom period from (times_of trace) → IsInOrder line_before (lines_of d trace)
+lines_in_order_from : (d : First) (period from : ℕ) (trace : List Message) → TimesAreApartFrom period from (times_of trace) → IsInOrder line_before (lines_of d trace)
 lines_in_order_from d period from [] h = tt
 lines_in_order_from d period from (m ∷ []) h = (tt, tt)
 lines_in_order_from d period from (m ∷ n ∷ trace) h =
     (grind (arith, nat_tests), lines_in_order_from d period (m.time + period) (n ∷ trace) h.1)
 
 -- what is shown of messages at successive times is in order
-pub lines_in_order : (d : First) (period : ℕ) (trace : List Message) → AreApart period (times_of trace) → IsInOrder line_before (lines_of d trace)
+pub lines_in_order : (d : First) (period : ℕ) (trace : List Message) → TimesAreApart period (times_of trace) → IsInOrder line_before (lines_of d trace)
 lines_in_order d period trace h = lines_in_order_from d period 0 trace h

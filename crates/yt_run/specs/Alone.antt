@@ -1,10 +1,13 @@
 -- One task whose jobs run alone: each arrives when the one before is done, and runs from then on.
-use Rattle.std.specs.Prelude.{◌≡◌, ℕ, suc, ◌+◌, ◌-◌, ◌<◌, ◌≤◌, List, [], ◌∷◌, ◌++◌, Some, None, length, map, max, replicate}
-use Rattle.yt_run.specs.declared.job.Job.{Job}
-use Rattle.yt_run.specs.Tasks.{Task, Has}
-use Rattle.yt_run.specs.Plan.{Item, IsLegal}
-use Rattle.yt_run.specs.Ticks.{Ticks, done, first_tick, order_of, IsLawful, IsWorkConserving, IsExclusive, KeepsDeadlines}
-use Rattle.yt_run.specs.EdfDdm.{IsEdfDdm}
+use Rattle.std.specs.Prelude.{◌≡◌, ℕ, suc, ◌+◌, ◌-◌, ◌<◌, ◌≤◌, List, [], ◌∷◌, ◌++◌, Some, None, length, map, replicate}
+use Rattle.yt_set.specs.declared.task.Task.{Task}
+use Rattle.yt_log.specs.declared.job.Job.{Job}
+use Rattle.yt_log.specs.declared.plan.PlanItem.{PlanItem}
+use Rattle.yt_log.specs.EdfDdm.{IsEdfDdm}
+use Rattle.yt_log.specs.Plan.{IsLegal}
+use Rattle.yt_log.specs.Tasks.{Has}
+use Rattle.yt_log.specs.Ticks.{Ticks, done, first_tick, IsLawful, IsWorkConserving, IsExclusive, KeepsDeadlines}
+use Rattle.yt_run.specs.Beginnings.{order_of}
 
 -- the set of one task under no resource
 abbrev pub one_task : ℕ → ℕ → List Task
@@ -15,21 +18,16 @@ abbrev pub nth_job : ℕ → Job
 nth_job number = record { task = 1; number = number }
 
 -- the first of the times is no earlier than `from`, and each later one at least a period after the one before
-abbrev pub AreApartFrom : ℕ → ℕ → List ℕ → Type 0
-AreApartFrom period from [] = Unit {0}
-AreApartFrom period from (a ∷ times) = (from ≤ a) × AreApartFrom period (a + period) times
+abbrev pub TimesAreApartFrom : ℕ → ℕ → List ℕ → Type 0
+TimesAreApartFrom period from [] = Unit {0}
+TimesAreApartFrom period from (a ∷ times) = (from ≤ a) × TimesAreApartFrom period (a + period) times
 
 -- times of which each later one is at least a period after the one before
-abbrev pub AreApart : ℕ → List ℕ → Type 0
-AreApart period times = AreApartFrom period 0 times
-
--- the greatest of the numbers, 0 where there is none
-abbrev pub greatest : List ℕ → ℕ
-greatest [] = 0
-greatest (n ∷ ns) = max n (greatest ns)
+abbrev pub TimesAreApart : ℕ → List ℕ → Type 0
+TimesAreApart period times = TimesAreApartFrom period 0 times
 
 -- the jobs that arrive at these times, each of this cost, numbered on from n
-abbrev pub items_from : ℕ → ℕ → List ℕ → List Item
+abbrev pub items_from : ℕ → ℕ → List ℕ → List PlanItem
 items_from cost n [] = []
 items_from cost n (a ∷ times) = (record { job = nth_job (suc n); arrival = a; cost = cost }) ∷ items_from cost (suc n) times
 
@@ -40,7 +38,7 @@ alone_from cost n at (a ∷ times) =
     replicate (a - at) None ++ (replicate cost (Some (nth_job (suc n))) ++ alone_from cost (suc n) (a + cost) times)
 
 -- what holds of a set, a legal plan and its log where the jobs run alone
-pub record RunsAlone (tasks : List Task) (plan : List Item) (log : Ticks) : Type 0 where
+pub record RunsAlone (tasks : List Task) (plan : List PlanItem) (log : Ticks) : Type 0 where
   pub legal : IsLegal tasks plan
   pub lawful : IsLawful plan log
   pub work_conserving : IsWorkConserving plan log
@@ -48,12 +46,12 @@ pub record RunsAlone (tasks : List Task) (plan : List Item) (log : Ticks) : Type
   pub deadlines : (h : ℕ) → KeepsDeadlines tasks plan log h
   pub edf_ddm : IsEdfDdm tasks plan log
   -- the jobs begin in the order of the plan, each as it arrives, and each is done
-  pub order : order_of log ≡ map (λ (item : Item). item.job) plan
-  pub finished : (item : Item) → Has plan item → done log item.job (length log) ≡ item.cost
-  pub first_ticks : (item : Item) → Has plan item → first_tick log item.job (length log) ≡ item.arrival
+  pub order : order_of log ≡ map (λ (item : PlanItem). item.job) plan
+  pub finished : (item : PlanItem) → Has plan item → done log item.job (length log) ≡ item.cost
+  pub first_ticks : (item : PlanItem) → Has plan item → first_tick log item.job (length log) ≡ item.arrival
   -- a task's jobs arrive and begin in the order of their numbers, each when the one before is done
   pub in_order :
-      (a b : Item) → Has plan a → Has plan b → a.job.task ≡ b.job.task → a.job.number < b.job.number →
+      (a b : PlanItem) → Has plan a → Has plan b → a.job.task ≡ b.job.task → a.job.number < b.job.number →
       (a.arrival ≤ b.arrival) × (first_tick log a.job (length log) < first_tick log b.job (length log))
   pub none_replaced :
-      (a b : Item) → Has plan a → Has plan b → a.job.task ≡ b.job.task → b.job.number ≡ a.job.number + 1 → done log a.job b.arrival ≡ a.cost
+      (a b : PlanItem) → Has plan a → Has plan b → a.job.task ≡ b.job.task → b.job.number ≡ a.job.number + 1 → done log a.job b.arrival ≡ a.cost

@@ -1,13 +1,14 @@
 -- The graphs that `run_first` takes: one input, one port without variables, whose handler sends a sum, and one output.
-use Rattle.std.specs.Prelude.{◌≡◌, ℕ, ◌+◌, ◌-◌, ◌<◌, ◌≤◌, ◌^◌, List, [], ◌∷◌, ◌++◌, length, replicate, pos}
+use Rattle.std.specs.Prelude.{◌≡◌, ℕ, ◌+◌, ◌-◌, ◌<◌, ◌≤◌, ◌^◌, List, [], ◌∷◌, ◌++◌, length, replicate, pos, slice_index_or}
 use Rattle.yt_graph.specs.declared.expr.Op2.TheVariants.{Add}
 use Rattle.yt_graph.specs.declared.port.Feed.TheVariants.{Input as FromInput}
-use Rattle.yt_graph.specs.Picture.{ExprTree, num, local, two, no_exprs, more_exprs, send, empty, more, GraphTree, PortTree}
-use Rattle.yt_graph.specs.Meaning.{expr_value}
 use Rattle.yt_graph.specs.Cost.{greatest_cost}
-use Rattle.yt_run.specs.declared.trace.Message.{Message}
+use Rattle.yt_graph.specs.Meaning.{expr_value}
+use Rattle.yt_graph.specs.Picture.{ExprTree, num, local, two, no_exprs, more_exprs, send, empty, more, GraphTree, PortTree}
+use Rattle.yt_rates.specs.Rates.{period_of}
 use Rattle.yt_run.specs.declared.told.OutLine.{OutLine}
-use Rattle.yt_run.specs.Serial.{the_port, period_of}
+use Rattle.yt_run.specs.declared.trace.Message.{Message}
+use Rattle.yt_run.specs.SerialHandling.{no_port}
 
 -- what a sum adds: the message's number, or a number that is written
 pub data Operand : Type 0 where
@@ -92,9 +93,17 @@ abbrev pub line_with : ExprTree → ℕ → Message → OutLine
 line_with e period message =
     record { time = message.time + period; output = 1; values = expr_value e (message.values ++ replicate (1 - length message.values) (pos 0)) [] ∷ [] }
 
+-- the port of a graph that has one
+abbrev pub the_port : GraphTree → PortTree
+the_port graph = slice_index_or graph.ports 0 no_port
+
+-- the period of that port
+abbrev pub the_period : GraphTree → ℕ
+the_period graph = period_of graph (the_port graph)
+
 -- the greatest cost of the handler is within its period
 abbrev pub FitsFirst : GraphTree → Type 0
-FitsFirst graph = greatest_cost (the_port graph) ≤ period_of graph
+FitsFirst graph = greatest_cost (the_port graph) ≤ the_period graph
 
 -- each message is one number of the first input, at most 4,000,000 ticks from the start
 pub record IsFirstMessage (message : Message) : Type 0 where
@@ -118,5 +127,5 @@ AreSpaced period (message ∷ trace) = ComeLater trace × AreSpaced period trace
 -- a trace that keeps the graph's period
 pub record KeepsPeriod (graph : GraphTree) (trace : List Message) : Type 0 where
   pub messages : AreFirstMessages trace
-  pub spaced : AreSpaced (period_of graph) trace
+  pub spaced : AreSpaced (the_period graph) trace
   pub few : length trace ≤ 200000

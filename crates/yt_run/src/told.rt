@@ -1,7 +1,7 @@
 //! What a run tells.
 
-use crate::log::Log;
 use yt_list::{Items, Vals};
+use yt_log::Log;
 
 /// A message at an output of the graph: when it is shown, in ticks, the number of the output, from 1, and its numbers.
 #[derive(Debug, Drop)]

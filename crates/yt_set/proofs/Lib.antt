@@ -1,6 +1,4 @@
 pub mod Hyperperiods
-pub mod LineCounts
 pub mod Multiples
 pub mod NamedLemmas
 pub mod SeenLemmas
-pub mod UserLemmas

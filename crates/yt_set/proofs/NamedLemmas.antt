@@ -1,12 +1,12 @@
 -- A named set with one more task.
-use Rattle.std.proofs.Common.{◌≡◌, ℕ, ◌+◌, ◌<◌, ◌≤◌, ◌||◌, not, Bool, true, false, cond, IsTrue, eqb, List, [], ◌∷◌, ◌++◌, length, bytes_eq, refl, ap, ◌∙◌, arith, length-append}
+use Rattle.std.proofs.Common.{◌≡◌, ℕ, ◌+◌, ◌<◌, ◌≤◌, ◌||◌, not, Bool, true, false, cond, IsTrue, eqb, List, [], ◌∷◌, ◌++◌, length, bytes_eq, refl, ap, subst, ◌∙◌, arith, length-append}
 use Rattle.std.proofs.lemmas.Bool.Decides.{nat_tests}
 use Rattle.std.proofs.lemmas.List.Elements.{All-append}
 use Rattle.std.proofs.lemmas.List.Sums.{prefix_len-le-length}
-use Rattle.std.specs.List.{position_or_len}
+use Rattle.std.specs.List.{All, position_or_len}
 use Rattle.yt_set.specs.declared.task.Task.{Task}
-use Rattle.yt_set.specs.NamedTasks.{NamedTasks, IsNamed}
-use Rattle.yt_set.specs.SetText.{in_range, is_among, number_of, with_group, with_task}
+use Rattle.yt_set.specs.NamedTasks.{NamedTasks, IsNamed, HasNameLength}
+use Rattle.yt_set.specs.SetText.{in_range, is_among, is_name, is_group, number_of, with_group, with_task}
 use Rattle.yt_set.specs.Tasks.{IsTask}
 use Rattle.yt_set.proofs.Hyperperiods.{all_one}
 use Rattle.yt_set.proofs.SeenLemmas.{position_less}
@@ -43,9 +43,25 @@ numbered groups group = by (eqb (length group) 0) (is_among group groups) refl
     by false true e = let less = position_less (bytes_eq group) groups e in omega arith
     by false false e = let short = prefix_len-le-length (λ x. not (bytes_eq group x)) groups in omega (arith, length-append groups (group ∷ []))
 
+-- a name has as many bytes as a name
+name_length : (text : List ℕ) → IsTrue (is_name text) → HasNameLength text
+name_length text h = grind (arith, nat_tests)
+
+-- the names of resources have it with one more, where that is one
+groups_more : (groups : List (List ℕ)) (group : List ℕ) → All HasNameLength groups → IsTrue (is_group group) → All HasNameLength (with_group groups group)
+groups_more groups group all h = by (eqb (length group) 0) (is_among group groups) refl
+  where
+    by : (none among : Bool) → eqb (length group) 0 ≡ none → All HasNameLength (cond (none || among) groups (groups ++ group ∷ []))
+    by true among e = all
+    by false true e = all
+    by false false e =
+        let named : IsTrue (is_name group) = subst (λ b. IsTrue (b || is_name group)) e h in
+        All-append HasNameLength groups (group ∷ []) all (all_one HasNameLength group (name_length group named))
+
 -- one more task in range keeps a named set named
-pub named_more : (read : NamedTasks) (name : List ℕ) (cost period : ℕ) (group : List ℕ) → IsNamed read → IsTrue (in_range cost) → IsTrue (in_range period) → length read.tasks < 64 → IsNamed (with_task read name cost period group)
-named_more read name cost period group is hc hp room =
+pub named_more : (read : NamedTasks) (name : List ℕ) (cost period : ℕ) (group : List ℕ) → IsNamed read → IsTrue (in_range cost) → IsTrue (in_range period) → IsTrue (is_name name) → IsTrue (is_group group) → length read.tasks < 64 →
+    IsNamed (with_task read name cost period group)
+named_more read name cost period group is hc hp hn hg room =
     let new : Task = record { cost = cost; period = period; resource = number_of read.groups group } in
     let c = in_range_is cost hc in
     let p = in_range_is period hp in
@@ -55,6 +71,8 @@ named_more read name cost period group is hc hp room =
     record {
       in_range = (omega arith, All-append IsTask read.tasks (new ∷ []) is.in_range.1 (all_one IsTask new (c.0, c.1, p.0, p.1)));
       labelled = let same = is.labelled in omega (arith, length-append read.labels (name ∷ []));
+      labels = All-append HasNameLength read.labels (name ∷ []) is.labels (all_one HasNameLength name (name_length name hn));
+      groups = groups_more read.groups group is.groups hg;
       grouped = All-append (λ t. t.resource ≤ length (with_group read.groups group)) read.tasks (new ∷ [])
           (λ k d lt. let here = is.grouped k d lt in let all = more.all in omega arith)
           (all_one (λ t. t.resource ≤ length (with_group read.groups group)) new (numbered read.groups group));

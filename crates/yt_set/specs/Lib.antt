@@ -1,4 +1,3 @@
-pub mod Files
 pub mod Hyperperiod
 pub mod NamedTasks
 pub mod Printed

@@ -2,7 +2,7 @@
 use Rattle.std.specs.Prelude.{◌≡◌, ℕ, ◌≤◌, List, length}
 use Rattle.std.specs.List.{All}
 use Rattle.yt_set.specs.declared.task.Task.{Task}
-use Rattle.yt_set.specs.Tasks.{IsTaskSet, users_of}
+use Rattle.yt_set.specs.Tasks.{IsTaskSet}
 
 -- tasks in order, the name of each, and the names of their resources by number
 pub record NamedTasks : Type 0 where
@@ -10,13 +10,15 @@ pub record NamedTasks : Type 0 where
   pub labels : List (List ℕ)
   pub groups : List (List ℕ)
 
--- the tasks are a set, and each has a name, as has each resource that one of them is under
+-- it has as many bytes as a name: from 1 to 65
+abbrev pub HasNameLength : List ℕ → Type 0
+HasNameLength text = (1 ≤ length text) × (length text ≤ 65)
+
+-- the tasks are a set, each has a name, as has each resource that one of them is under, and there are no more resources than tasks
 pub record IsNamed (set : NamedTasks) : Type 0 where
   pub in_range : IsTaskSet set.tasks
   pub labelled : length set.labels ≡ length set.tasks
+  pub labels : All HasNameLength set.labels
   pub grouped : All (λ task. task.resource ≤ length set.groups) set.tasks
+  pub groups : All HasNameLength set.groups
   pub few : length set.groups ≤ length set.tasks
-
--- some task is under the resource
-abbrev pub HasUser : List Task → ℕ → Type 0
-HasUser tasks resource = 1 ≤ length (users_of tasks resource)

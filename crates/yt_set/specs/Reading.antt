@@ -6,7 +6,7 @@ use Rattle.yt_set.specs.declared.read.SetFault.TheVariants.{Line, Memory}
 use Rattle.yt_set.specs.declared.task_line.TaskLine.{TaskLine}
 use Rattle.yt_set.specs.declared.task_line.NewTask.{NewTask}
 use Rattle.yt_set.specs.NamedTasks.{NamedTasks}
-use Rattle.yt_set.specs.Files.{after_line}
+use Rattle.yt_base.specs.Files.{after_line}
 use Rattle.yt_set.specs.SetText.{TaskTexts, in_range, judged, with_task}
 
 -- the texts of a line's fields

@@ -6,7 +6,7 @@ use Rattle.yt_set.specs.declared.read.LineFault.{LineFault}
 use Rattle.yt_set.specs.declared.read.LineFault.TheVariants.{Form, Name, Twice, Cost, Period, Many}
 use Rattle.yt_set.specs.declared.read.SetFault.{SetFault}
 use Rattle.yt_set.specs.declared.read.SetFault.TheVariants.{Line, Memory}
-use Rattle.yt_set.specs.Files.{read_lines}
+use Rattle.yt_base.specs.Files.{read_lines}
 use Rattle.yt_set.specs.NamedTasks.{NamedTasks}
 
 -- the fields of a task's line behind its first; `group` names its resource, and is empty where it has none

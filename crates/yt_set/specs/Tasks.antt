@@ -3,7 +3,7 @@ use Rattle.std.specs.Prelude.{◌≡◌, ℕ, ◌+◌, ◌-◌, ◌*◌, ◌/◌
 use Rattle.std.specs.List.{All, filter, reduce, sum_by}
 use Rattle.yt_set.specs.declared.task.Task.{Task}
 
--- a task that costs from 1 to 1,000,000 ticks, and whose jobs come at least 1 and at most 1,000,000 ticks apart
+-- a task whose cost and whose period are from 1 to 1,000,000 ticks
 abbrev pub IsTask : Task → Type 0
 IsTask task = (1 ≤ task.cost) × (task.cost ≤ 1000000) × (1 ≤ task.period) × (task.period ≤ 1000000)
 
@@ -49,7 +49,7 @@ multiple_from m (task ∷ tasks) = multiple_from (lcm m task.period) tasks
 abbrev pub hyperperiod : List Task → ℕ
 hyperperiod tasks = multiple_from 1 tasks
 
--- the load of h ticks: what the jobs cost that arrive in them where all come as soon as they may
+-- the load of h ticks: what the jobs cost whose periods end within them where all come as soon as they may
 abbrev pub load : List Task → ℕ → ℕ
 load tasks h = sum_by (λ task. task.cost * (h / task.period)) tasks
 

@@ -2,11 +2,10 @@
 //!
 //! A task has a greatest cost, a least time between its jobs, and at most one resource. The definitions say what tasks ask of
 //! the processor and when a set fits. This crate may not know of graphs, runs or schedules. Its contract: a [`TaskSet`] is in
-//! range, and [`read_set`] answers the set that a text says ([`set_of` in `specs/SetText.antt`]), or its first fault.
+//! range, and [`read_set`] answers the set that a text says (`set_of` in `specs/SetText.antt`), or its first fault.
 #![tactic(auto)]
 
 mod laws;
-mod lines;
 mod named;
 mod put;
 mod read;

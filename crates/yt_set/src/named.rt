@@ -1,6 +1,7 @@
 //! Sets whose tasks and resources have names.
 ghost use Rattle.std.specs.Prelude.{◌≡◌, ◌-◌, ◌<◌, ◌≤◌, length, slice_get, Some};
-ghost use Rattle.yt_set.specs.NamedTasks.{IsNamed, HasUser};
+ghost use Rattle.std.specs.List.{All};
+ghost use Rattle.yt_set.specs.NamedTasks.{HasNameLength, IsNamed};
 
 use crate::set::TaskSet;
 use std::marker::Model;
@@ -38,9 +39,14 @@ impl NamedSet {
         }
     }
 
-    /// The tasks.
+    /// The tasks. Whatever the set, each task has a name, as has each resource that a task is under, and each name has from 1 to
+    /// 65 bytes.
     pub fn set(&self) -> &TaskSet
-        ensures { result.now ≡ self.now.tasks }
+        ensures set { result.now ≡ self.now.tasks }
+        ensures labelled { length self.now.labels ≡ length self.now.tasks }
+        ensures labels { All HasNameLength self.now.labels }
+        ensures grouped { All (λ task. task.resource ≤ length self.now.groups) self.now.tasks }
+        ensures groups { All HasNameLength self.now.groups }
     {
         &self.tasks
     }
@@ -49,16 +55,18 @@ impl NamedSet {
     pub fn label(&self, task: u32) -> &[u8]
         requires positive { 1 ≤ task }
         requires within { task ≤ length self.now.tasks }
-        ensures { slice_get self.now.labels (task - 1) ≡ Some result.now }
+        ensures label { slice_get self.now.labels (task - 1) ≡ Some result.now }
+        ensures length { HasNameLength result.now }
     {
         self.labels.at(task as usize - 1).as_slice()
     }
 
-    /// The name of a resource by its number from 1. The caller shows that a task is under it.
+    /// The name of a resource by its number from 1. The caller shows that there is one, as there is for each task's.
     pub fn group(&self, resource: u32) -> &[u8]
         requires positive { 1 ≤ resource }
-        requires used { HasUser self.now.tasks resource }
-        ensures { slice_get self.now.groups (resource - 1) ≡ Some result.now }
+        requires within { resource ≤ length self.now.groups }
+        ensures group { slice_get self.now.groups (resource - 1) ≡ Some result.now }
+        ensures length { HasNameLength result.now }
     {
         self.groups.at(resource as usize - 1).as_slice()
     }

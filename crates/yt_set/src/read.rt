@@ -1,12 +1,12 @@
 //! Reads the text of a set.
-ghost use Rattle.std.specs.Prelude.{◌≡◌, ◌≤◌, length, Ok, IfOk, IfErr};
+ghost use Rattle.std.specs.Prelude.{◌≡◌, ◌<◌, ◌^◌, length, Ok, IfOk, IfErr};
 ghost use Rattle.yt_set.specs.SetText.{IsFaultOf, set_of};
 ghost use Rattle.yt_set.specs.declared.read.SetFault.TheVariants.{Memory};
 
-use crate::lines::Lines;
 use crate::named::NamedSet;
 use crate::reader::Reader;
 use std::alloc::{AllocError, Global};
+use yt_base::Lines;
 
 /// What is wrong with a line of a set's text. Of several faults the first in this order counts.
 #[derive(Clone, Copy, Debug, PartialEq, Eq, Drop)]
@@ -47,9 +47,9 @@ impl From<AllocError> for SetFault {
 /// fault and that line's first fault.
 ///
 /// Lines without fields are skipped but counted, as are those whose first field begins with `#`. Resources are numbered
-/// by first use, from 1. Takes time linear in the text.
+/// by first use, from 1. The caller shows that the text is shorter than 2^32 bytes. Takes time linear in the text.
 pub fn read_set(alloc: Global, text: &[u8]) -> Result<NamedSet, SetFault>
-    requires { length text.now ≤ 16777216 }
+    requires { length text.now < 2 ^ 32 }
     ensures ok { IfOk result (λ named. set_of text.now ≡ Ok named) }
     ensures err { IfErr result (λ fault. IsFaultOf text.now fault) }
 {

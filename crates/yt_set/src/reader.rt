@@ -1,11 +1,10 @@
 //! Reads a set line by line.
 ghost use Rattle.std.specs.Prelude.{◌≡◌, ◌<◌, ◌≤◌, length, IfOk, MatchResult, Ok, Err, OnOk, IsTrue, false};
 ghost use Rattle.yt_base.specs.Lines.{fields_of};
-ghost use Rattle.yt_set.specs.Files.{after_line};
+ghost use Rattle.yt_base.specs.Files.{after_line};
 ghost use Rattle.yt_set.specs.Reading.{IsFaultAt, with_new};
-ghost use Rattle.yt_set.specs.SetText.{in_range, is_among, judged, no_tasks, number_of, with_group};
+ghost use Rattle.yt_set.specs.SetText.{in_range, is_among, is_group, is_name, judged, no_tasks, number_of, with_group};
 
-use crate::lines::is_skipped;
 use crate::named::NamedSet;
 use crate::read::{LineFault, SetFault};
 use crate::seen::Seen;
@@ -14,6 +13,7 @@ use crate::task::Task;
 use crate::task_line::{NewTask, TaskLine, ticks};
 use std::alloc::{AllocError, Global};
 use std::marker::Model;
+use yt_base::is_skipped;
 
 /// What the lines so far say. A contract sees the tasks, their names, and the names of resources in order of first use.
 #[derive(Drop)]
@@ -67,6 +67,8 @@ impl<'a> Reader<'a> {
             (λ fault. judged self.now (fields_of line.now) ≡ Err fault) }
         ensures cost { IfOk result (λ task. IsTrue (in_range task.cost)) }
         ensures period { IfOk result (λ task. IsTrue (in_range task.period)) }
+        ensures name { IfOk result (λ task. IsTrue (is_name task.name.now)) }
+        ensures group { IfOk result (λ task. IsTrue (is_group task.group.now)) }
         ensures other { IfOk result (λ task. is_among task.name.now self.now.labels ≡ false) }
         ensures room { IfOk result (λ task. length self.now.tasks < 64) }
     {
@@ -102,6 +104,8 @@ impl<'a> Reader<'a> {
     fn add(self, task: NewTask<'a>) -> Result<Self, AllocError>
         requires cost { IsTrue (in_range task.cost) }
         requires period { IsTrue (in_range task.period) }
+        requires name { IsTrue (is_name task.name.now) }
+        requires group { IsTrue (is_group task.group.now) }
         requires other { is_among task.name.now self.labels ≡ false }
         requires room { length self.tasks < 64 }
         ensures { IfOk result (λ read. read ≡ with_new self.entry task.entry) }

@@ -6,13 +6,12 @@ ghost use Rattle.yt_base.specs.Lines.{fields_of};
 ghost use Rattle.yt_set.specs.SetText.{task_texts, is_name_byte, is_name, is_group};
 ghost use Rattle.yt_set.specs.Reading.{texts_of, ticks_of};
 
-use crate::lines::Fields;
 use crate::read::LineFault;
 use crate::set::in_range;
-use yt_base::{Decimal, digits};
+use yt_base::{Decimal, Fields, digits};
 
 /// How many bytes a name has at most.
-const NAME_ROOM: usize = 65;
+const MOST_NAME_BYTES: usize = 65;
 
 /// The fields of a task's line behind its first. The last one is empty where the task is under no resource.
 #[derive(Clone, Copy)]
@@ -82,7 +81,7 @@ pub(crate) fn ticks(text: &[u8]) -> Result<Option<u64>, LineFault>
 fn is_name(text: &[u8]) -> bool
     ensures { result ≡ is_name text.now }
 {
-    !text.is_empty() && text.len() <= NAME_ROOM && has_name_bytes(text)
+    !text.is_empty() && text.len() <= MOST_NAME_BYTES && has_name_bytes(text)
 }
 
 /// Whether each byte is an ASCII letter, a digit, `_` or `.`.

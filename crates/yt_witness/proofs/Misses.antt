@@ -1,12 +1,18 @@
 -- Each pattern of a set has a plan that must miss.
-use Rattle.std.proofs.Common.{◌≡◌, ℕ, ◌<◌, ◌≤◌, List, ⊎_elim, sym, ap, subst}
+use Rattle.std.proofs.Common.{◌≡◌, ℕ, suc, ◌+◌, ◌-◌, ◌<◌, ◌≤◌, List, slice_get, Option, Some, None, refl, ⊎_elim, sym, ap, subst, ◌∙◌, arith}
+use Rattle.std.specs.Prelude.{IsSomeAnd}
+use Rattle.std.proofs.lemmas.Option.{get_or_from_slice_get, slice_get_within}
 use Rattle.std.proofs.lemmas.Bool.{cases_lt}
 use Rattle.yt_set.specs.declared.task.Task.{Task}
-use Rattle.yt_set.specs.Tasks.{IsTaskSet, hyperperiod, load}
+use Rattle.yt_set.specs.Tasks.{IsTaskSet, demand_bound, floor_of, hyperperiod, load, within}
 use Rattle.yt_fits.specs.declared.sums.LoadSum.{LoadSum}
 use Rattle.yt_fits.specs.declared.unfit.Unfit.{Unfit}
-use Rattle.yt_fits.specs.declared.unfit.Unfit.TheVariants.{Overload}
+use Rattle.yt_fits.specs.declared.unfit.Unfit.TheVariants.{Interval, Overload}
+use Rattle.yt_fits.specs.declared.interval.Breach.{Breach}
+use Rattle.yt_fits.specs.Intervals.{IsLowestBreach}
 use Rattle.yt_fits.specs.Unfits.{IsReason}
+use Rattle.yt_log.specs.Tasks.{no_task, task_of}
+use Rattle.yt_log.proofs.Demands.{task_of-suc}
 use Rattle.yt_log.specs.Patterns.{MustMiss, pattern_plan, all_tasks}
 use Rattle.yt_log.proofs.Overloads.{overloads}
 use Rattle.yt_log.proofs.Blockers.{blockers}
@@ -30,3 +36,34 @@ pub overload_pattern : (tasks : List Task) (why : Unfit) (sum : LoadSum) → why
 overload_pattern tasks why sum is reason =
     let told = subst (λ w. IsReason tasks w) is reason in
     (ap (λ (s : LoadSum). s.whole) told.0, told.2)
+
+-- the task of a number
+numbered : (tasks : List Task) (n : ℕ) (task : Task) → 1 ≤ n → slice_get tasks (n - 1) ≡ Some task → task_of tasks n ≡ task
+numbered tasks n task pos at =
+    let here : suc (n - 1) ≡ n = omega arith in
+    ap (task_of tasks) (sym here) ∙ task_of-suc tasks (n - 1) ∙ get_or_from_slice_get tasks (n - 1) task no_task at
+
+some_and : (o : Option ℕ) (P : ℕ → Type 0) → IsSomeAnd o P → (n : ℕ) × (o ≡ Some n) × P n
+some_and None P h = absurd h
+some_and (Some n) P h = (n, refl, h)
+
+lowest_pattern : (tasks : List Task) (breach : Breach) → IsLowestBreach tasks breach → IsPatternOf tasks (Blocker breach.task breach.len)
+lowest_pattern tasks breach is =
+    let same = numbered tasks breach.task is.task is.positive is.there in
+    let within_set = slice_get_within tasks (breach.task - 1) is.task is.there in
+    let floor = some_and (floor_of tasks is.task.resource) (λ n. n < breach.len) is.lacks.0 in
+    record {
+      positive = is.positive;
+      in_set = omega arith;
+      floor = floor.0;
+      least = subst (λ (t : Task). floor_of tasks t.resource ≡ Some floor.0) (sym same) floor.1;
+      above = floor.2;
+      below = subst (λ (t : Task). breach.len < within t) (sym same) is.lacks.1;
+      over = subst (λ (t : Task). breach.len < t.cost + demand_bound tasks (breach.len - 1)) (sym same) is.lacks.2;
+    }
+
+-- a breach's pattern is one of the set's
+pub breach_pattern : (tasks : List Task) (why : Unfit) (breach : Breach) → why ≡ Interval breach → IsReason tasks why → IsPatternOf tasks (Blocker breach.task breach.len)
+breach_pattern tasks why breach told reason =
+    let first = subst (λ w. IsReason tasks w) told reason in
+    lowest_pattern tasks breach first.0.lowest

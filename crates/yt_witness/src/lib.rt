@@ -1,9 +1,9 @@
 //! Arrivals that show that a set of tasks doesn't fit.
 //!
 //! For a reason that a set doesn't fit, [`witness`] gives a pattern: arrivals with which every lawful, work-conserving and
-//! exclusive schedule misses a deadline. [`arrive`] tells them task by task, without memory. This crate may not know of text,
-//! graphs or how an executive works. Its contract: the pattern is the reason's, its plan is legal and must miss, and the arrivals
-//! of each task are those that the plan is made of.
+//! exclusive schedule that is told up to the pattern's end misses a deadline. [`arrive`] tells them task by task, without
+//! memory. This crate may not know of text, graphs or how an executive works. Its contract: the pattern is the reason's, its
+//! plan is legal and must miss, and the arrivals of each task are those that the plan is made of.
 #![tactic(auto)]
 
 mod arrivals;

@@ -7,8 +7,8 @@ ghost use Rattle.yt_witness.specs.Witnesses.{IsPatternOf, IsWide, horizon, patte
 use yt_fits::Unfit;
 use yt_set::TaskSet;
 
-/// Arrivals with which every lawful, work-conserving and exclusive schedule of a set misses a deadline. All jobs cost the most that
-/// their tasks may.
+/// Arrivals with which every lawful, work-conserving and exclusive schedule of a set that is told up to tick `upto` misses a deadline
+/// by it. All jobs cost the most that their tasks may.
 #[derive(Clone, Copy, Debug, PartialEq, Eq)]
 pub enum Pattern {
     /// Each task from tick 0 on, at its period, as often as its jobs can be due by tick `upto`, which is the hyperperiod.
@@ -26,8 +26,8 @@ pub enum Pattern {
 }
 
 /// The pattern that shows a reason: that of all tasks for an overload, that of a blocker for an interval. `None` comes exactly
-/// for a hyperperiod that is too great. The caller shows that the reason is what [`yt_fits::fits`] answers of the set, so that
-/// `Blocker` doesn't come yet. Takes no memory.
+/// for a hyperperiod that is too great. The caller shows that the reason is what [`yt_fits::fits`] answers of the set. Takes no
+/// memory.
 pub fn witness(set: &TaskSet, why: &Unfit) -> Option<Pattern>
     requires { IsReason set.now why.now }
     ensures value { result ≡ pattern_of why.now }

@@ -1,38 +1,66 @@
 use super::*;
+use std::alloc::Global;
 use std::test::Fail;
 use yt_fits::fits;
 use yt_set::{Task, TaskSet};
 
-#[test]
-fn an_overload_shows_in_one_hyperperiod(rt: HostRuntime) -> Result<(), Fail> {
-    let mut tasks = Vec::new(rt.alloc());
-    for (cost, period) in [(5, 10), (11, 20)] {
-        tasks.push(Task {
-            cost,
-            period,
-            resource: 0,
+/// Two tasks that don't fit, by cost, period and resource; their pattern; and the arrivals of each task in it, by first tick,
+/// step, count and cost.
+const PATTERNS: [([(u64, u64, u32); 2], Pattern, [(u64, u64, u128, u64); 2]); 3] = [
+    (
+        [(5, 10, 0), (11, 20, 0)],
+        Pattern::All { upto: 20 },
+        [(0, 10, 2, 5), (0, 20, 1, 11)],
+    ),
+    (
+        [(1, 4, 1), (5, 20, 1)],
+        Pattern::Blocker { task: 2, upto: 5 },
+        [(1, 4, 1, 1), (0, 20, 1, 5)],
+    ),
+    (
+        [(10, 100, 1), (1, 9, 1)],
+        Pattern::Blocker { task: 1, upto: 10 },
+        [(0, 100, 1, 10), (1, 9, 1, 1)],
+    ),
+];
+
+/// The set of two tasks.
+fn set_of(alloc: Global, tasks: &[(u64, u64, u32); 2]) -> Result<TaskSet, Fail> {
+    let mut list = Vec::new(alloc);
+    for (cost, period, resource) in tasks {
+        list.push(Task {
+            cost: *cost,
+            period: *period,
+            resource: *resource,
         })?;
     }
-    let set = match TaskSet::new(tasks) {
-        Ok(set) => set,
-        Err(_) => return Err("no set".into()),
-    };
-    let why = match fits(&set) {
-        Ok(_) => return Err("fits".into()),
-        Err(why) => why,
-    };
-    let pattern = match witness(&set, &why) {
-        Some(pattern) => pattern,
-        None => return Err("no pattern".into()),
-    };
-    assert_eq!(rt; pattern, Pattern::All { upto: 20 });
-    for (n, expected) in [(1, (0, 10, 2, 5)), (2, (0, 20, 1, 11))] {
-        if n > set.len() {
+    match TaskSet::new(list) {
+        Ok(set) => Ok(set),
+        Err(_) => Err("no set".into()),
+    }
+}
+
+#[test]
+fn a_set_that_does_not_fit_has_a_pattern(rt: HostRuntime) -> Result<(), Fail> {
+    for (tasks, expected, arrivals) in &PATTERNS {
+        let set = set_of(rt.alloc(), tasks)?;
+        let why = match fits(&set) {
+            Ok(_) => return Err("fits".into()),
+            Err(why) => why,
+        };
+        let pattern = match witness(&set, &why) {
+            Some(pattern) => pattern,
+            None => return Err("no pattern".into()),
+        };
+        assert_eq!(rt; pattern, *expected);
+        if set.len() != 2 {
             return Err("too few tasks".into());
         }
-        let arrivals = arrive(&set, &pattern, n);
-        let numbers = (arrivals.first, arrivals.step, arrivals.count, arrivals.cost);
-        assert_eq!(rt; numbers, expected);
+        for n in 0..2u32 {
+            let told = arrive(&set, &pattern, n + 1);
+            let numbers = (told.first, told.step, told.count, told.cost);
+            assert_eq!(rt; numbers, arrivals[n as usize]);
+        }
     }
     Ok(())
 }

@@ -26,3 +26,16 @@ pub(crate) fn ask(
     let status = yartos(alloc, &list, &mut shelf, &mut sink);
     Ok((status, sink.bytes().to_vec(alloc)?))
 }
+
+/// The status that goes with a text, by its first word: `graph` or `set` where it is refused.
+pub(crate) fn status_of(text: &str) -> Status {
+    if text.starts_with("graph") || text.starts_with("set") {
+        Status::Graph
+    } else if text.starts_with("overload") {
+        Status::Overload
+    } else if text.starts_with("notyet") {
+        Status::NotYet
+    } else {
+        Status::Done
+    }
+}

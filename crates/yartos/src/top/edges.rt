@@ -1,5 +1,5 @@
 use crate::Status;
-use crate::top::asked::ask;
+use crate::top::asked::{ask, status_of};
 use std::alloc::{AllocError, Global};
 use std::process::Abort;
 use std::test::Fail;
@@ -17,14 +17,10 @@ fn answer(alloc: Global, command: &str, graph: Vec<u8>) -> Result<(Status, Vec<u
     )
 }
 
-/// Checks what `check` says of a graph: its refusal, or that checks aren't built yet where there's none.
+/// Checks what `check` says of a graph.
 fn check(rt: &(impl Abort + AllocGlobal), graph: Vec<u8>, line: &str) -> Result<(), Fail> {
     let (status, text) = answer(rt.alloc(), "check", graph)?;
-    let wanted = if line == "notyet\n" {
-        Status::NotYet
-    } else {
-        Status::Graph
-    };
+    let wanted = status_of(line);
     assert_eq!(rt; text.as_slice(), line.as_bytes());
     assert_eq!(rt; status, wanted);
     Ok(())
@@ -32,12 +28,15 @@ fn check(rt: &(impl Abort + AllocGlobal), graph: Vec<u8>, line: &str) -> Result<
 
 /// Texts at the edges of tokens, and what is said of them.
 const TOKENS: [(&str, &str); 15] = [
-    ("", "notyet\n"),
-    ("# nothing", "notyet\n"),
+    ("", "accepted 0 0/1\n"),
+    ("# nothing", "accepted 0 0/1\n"),
     ("!", "graph lex 1 1 bad\n"),
     ("input a@(1)", "graph lex 1 8 bad\n"),
     ("\u{e9}", "graph lex 1 1 bad\n"),
-    ("resource nnnnnnnnnnnnnnnnnnnnnnnnnnnnnnnn", "notyet\n"),
+    (
+        "resource nnnnnnnnnnnnnnnnnnnnnnnnnnnnnnnn",
+        "accepted 0 0/1\n",
+    ),
     (
         "resource nnnnnnnnnnnnnnnnnnnnnnnnnnnnnnnnn",
         "graph lex 1 10 long\n",
@@ -51,9 +50,9 @@ const TOKENS: [(&str, &str); 15] = [
         "graph limit 1 9 width\n",
     ),
     ("input in $", "graph lex 1 10 bad\n"),
-    ("resource r # s\r\nresource s", "notyet\n"),
+    ("resource r # s\r\nresource s", "accepted 0 0/1\n"),
     ("resource r\r\n\tresource r", "graph name 2 11 twice\n"),
-    ("resource # r\n\n r", "notyet\n"),
+    ("resource # r\n\n r", "accepted 0 0/1\n"),
     ("process p { # \u{e9}", "graph syntax 1 17\n"),
     ("process p {\n", "graph syntax 2 1\n"),
 ];
@@ -189,8 +188,8 @@ const NAMES: [(&str, &str); 22] = [
         "graph name 1 38 width\n",
     ),
     (
-        "input i(0) period 1 process p { port a from i () { if 1 { let x = 1 } let x = 2 } }",
-        "notyet\n",
+        "input i(0) period 9 process p { port a from i () { if 1 { let x = 1 } let x = 2 } }",
+        "accepted 1 7/9\n",
     ),
     (
         "input i(0) period 1 process p { port a from i () out o(1) { send o (1, 2) } }",
@@ -216,14 +215,14 @@ fn names_are_judged_at_their_place(rt: HostRuntime) -> Result<(), Fail> {
 
 /// Texts with numbers at and past their limits, and what is said of them.
 const NUMBERS: [(&str, &str); 11] = [
-    ("input a(8) period 1", "notyet\n"),
+    ("input a(8) period 1", "accepted 0 0/1\n"),
     ("input a(9) period 1", "graph limit 1 9 width\n"),
-    ("input a(0) period 1000000", "notyet\n"),
+    ("input a(0) period 1000000", "accepted 0 0/1\n"),
     ("input a(0) period 1000001", "graph limit 1 19 period\n"),
     ("input a(0) period 0", "graph limit 1 19 period\n"),
     (
         "input i(0) period 1 process p { port a from i () out o(8) every 1000 { repeat 1 max 10000 { } } }",
-        "notyet\n",
+        "graph rate p.a.o zero\n",
     ),
     (
         "input i(0) period 1 process p { port a from i () out o(9) { } }",
@@ -266,12 +265,12 @@ const COSTS: [(&str, &str); 16] = [
         "graph sends p.a o\n",
     ),
     (
-        "input i(1) period 1 process p { port a from i (v) out o(1) { repeat v max 64 { send o (v) } } }",
-        "notyet\n",
+        "input i(1) period 1000 process p { port a from i (v) out o(1) { repeat v max 64 { send o (v) } } }",
+        "accepted 1 195/1000\n",
     ),
     (
-        "input i(1) period 1 process p { port a from i (v) out o(1) { repeat v max 1000 { repeat v max 332 { let x = 1 } } repeat v max 331 { let x = 1 } let x = 1 } }",
-        "notyet\n",
+        "input i(1) period 1000000 process p { port a from i (v) { repeat v max 1000 { repeat v max 332 { let x = 1 } } repeat v max 331 { let x = 1 } let x = 1 } }",
+        "accepted 1 1000000/1000000\n",
     ),
     (
         "input i(1) period 1 process p { port a from i (v) out o(1) { repeat v max 1000 { repeat v max 332 { let x = 1 } } repeat v max 331 { let x = 1 } let x = -1 } }",
@@ -282,8 +281,8 @@ const COSTS: [(&str, &str); 16] = [
         "graph sends p.a o\n",
     ),
     (
-        "input i(1) period 1 process p { port a from i (v) out o(1) { if v { repeat v max 64 { send o (1) } } else { repeat v max 64 { send o (2) } } } }",
-        "notyet\n",
+        "input i(1) period 1000 process p { port a from i (v) out o(1) { if v { repeat v max 64 { send o (1) } } else { repeat v max 64 { send o (2) } } } }",
+        "accepted 1 198/1000\n",
     ),
     (
         "input i(1) period 1 process p { port a from i (v) out o(1) { if v { send o (0) } repeat v max 64 { send o (1) } } }",
@@ -294,8 +293,8 @@ const COSTS: [(&str, &str); 16] = [
         "graph sends p.a e\n",
     ),
     (
-        "input i(1) period 1 process p { port a from i (v) out o(1) out e(1) { repeat v max 64 { send e (v) send o (v) } } }",
-        "notyet\n",
+        "input i(1) period 1000 process p { port a from i (v) out o(1) out e(1) { repeat v max 64 { send e (v) send o (v) } } }",
+        "accepted 1 323/1000\n",
     ),
     (
         "input i(1) period 1 process p { port a from i (v) out o(1) { repeat v max 10000 { repeat v max 65 { send o (v) } } } }",
@@ -382,7 +381,7 @@ impl Grown {
 
 #[test]
 fn limits_hold_at_them_and_one_past(rt: HostRuntime) -> Result<(), Fail> {
-    for (grown, count, line) in [
+    for (grown, count, passes, line) in [
         (
             Grown {
                 begin: b"",
@@ -393,11 +392,12 @@ fn limits_hold_at_them_and_one_past(rt: HostRuntime) -> Result<(), Fail> {
                 end: b"",
             },
             16_u16,
+            "accepted 0 0/1\n",
             "graph limit 17 7 inputs\n",
         ),
         (
             Grown {
-                begin: b"input i(0) period 1\nprocess p { port a from i () out o(0) { } }\n",
+                begin: b"input i(0) period 10\nprocess p { port a from i () out o(0) { send o () } }\n",
                 before: b"output n",
                 behind: b" from p.a.o\n",
                 middle: b"",
@@ -405,6 +405,7 @@ fn limits_hold_at_them_and_one_past(rt: HostRuntime) -> Result<(), Fail> {
                 end: b"",
             },
             16_u16,
+            "accepted 1 2/10\n",
             "graph limit 19 8 outputs\n",
         ),
         (
@@ -417,6 +418,7 @@ fn limits_hold_at_them_and_one_past(rt: HostRuntime) -> Result<(), Fail> {
                 end: b"",
             },
             32_u16,
+            "accepted 0 0/1\n",
             "graph limit 33 10 resources\n",
         ),
         (
@@ -429,11 +431,12 @@ fn limits_hold_at_them_and_one_past(rt: HostRuntime) -> Result<(), Fail> {
                 end: b"",
             },
             64_u16,
+            "accepted 0 0/1\n",
             "graph limit 65 9 processes\n",
         ),
         (
             Grown {
-                begin: b"input i(0) period 1\nprocess p {\n",
+                begin: b"input i(0) period 64\nprocess p {\n",
                 before: b" port n",
                 behind: b" from i () { }\n",
                 middle: b"",
@@ -441,6 +444,7 @@ fn limits_hold_at_them_and_one_past(rt: HostRuntime) -> Result<(), Fail> {
                 end: b"}\n",
             },
             64_u16,
+            "accepted 64 64/64\n",
             "graph limit 67 7 ports\n",
         ),
         (
@@ -453,6 +457,7 @@ fn limits_hold_at_them_and_one_past(rt: HostRuntime) -> Result<(), Fail> {
                 end: b"}\n",
             },
             256_u16,
+            "accepted 0 0/1\n",
             "graph limit 258 6 variables\n",
         ),
         (
@@ -465,11 +470,12 @@ fn limits_hold_at_them_and_one_past(rt: HostRuntime) -> Result<(), Fail> {
                 end: b"{ } }\n",
             },
             8_u16,
+            "graph rate p.a.n0 zero\n",
             "graph limit 11 6 outs\n",
         ),
         (
             Grown {
-                begin: b"input i(0) period 1\nprocess p { port a from i () {\n",
+                begin: b"input i(0) period 100\nprocess p { port a from i () {\n",
                 before: b" let n",
                 behind: b" = 0\n",
                 middle: b"",
@@ -477,11 +483,12 @@ fn limits_hold_at_them_and_one_past(rt: HostRuntime) -> Result<(), Fail> {
                 end: b"} }\n",
             },
             16_u16,
+            "accepted 1 33/100\n",
             "graph limit 19 6 locals\n",
         ),
         (
             Grown {
-                begin: b"input i(0) period 1\nprocess p { port a from i () {\n",
+                begin: b"input i(0) period 100\nprocess p { port a from i () {\n",
                 before: b" # ",
                 behind: b"\n if 1 {\n",
                 middle: b"",
@@ -489,11 +496,12 @@ fn limits_hold_at_them_and_one_past(rt: HostRuntime) -> Result<(), Fail> {
                 end: b"} }\n",
             },
             7_u16,
+            "accepted 1 15/100\n",
             "graph syntax 18 2\n",
         ),
         (
             Grown {
-                begin: b"input i(0) period 1\nprocess p { port a from i () {\n",
+                begin: b"input i(0) period 100\nprocess p { port a from i () {\n",
                 before: b" # ",
                 behind: b"\n repeat 1 max 1 {\n",
                 middle: b"",
@@ -501,11 +509,12 @@ fn limits_hold_at_them_and_one_past(rt: HostRuntime) -> Result<(), Fail> {
                 end: b"} }\n",
             },
             7_u16,
+            "accepted 1 22/100\n",
             "graph syntax 18 2\n",
         ),
         (
             Grown {
-                begin: b"input i(0) period 1\nprocess p { port a from i () {\n let x = 0\n",
+                begin: b"input i(0) period 100\nprocess p { port a from i () {\n let x = 0\n",
                 before: b" # ",
                 behind: b"\n + 1\n",
                 middle: b"",
@@ -513,11 +522,12 @@ fn limits_hold_at_them_and_one_past(rt: HostRuntime) -> Result<(), Fail> {
                 end: b"} }\n",
             },
             31_u16,
+            "accepted 1 65/100\n",
             "graph syntax 67 2\n",
         ),
         (
             Grown {
-                begin: b"input i(0) period 1\nprocess p { port a from i () {\n let x = 0\n",
+                begin: b"input i(0) period 100\nprocess p { port a from i () {\n let x = 0\n",
                 before: b" # ",
                 behind: b"\n or 1\n",
                 middle: b"",
@@ -525,11 +535,12 @@ fn limits_hold_at_them_and_one_past(rt: HostRuntime) -> Result<(), Fail> {
                 end: b"} }\n",
             },
             31_u16,
+            "accepted 1 65/100\n",
             "graph syntax 67 2\n",
         ),
         (
             Grown {
-                begin: b"input i(0) period 1\nprocess p { port a from i () {\n let x =\n",
+                begin: b"input i(0) period 100\nprocess p { port a from i () {\n let x =\n",
                 before: b" # ",
                 behind: b"\n(\n",
                 middle: b"1",
@@ -537,11 +548,12 @@ fn limits_hold_at_them_and_one_past(rt: HostRuntime) -> Result<(), Fail> {
                 end: b"} }\n",
             },
             31_u16,
+            "accepted 1 3/100\n",
             "graph syntax 67 1\n",
         ),
         (
             Grown {
-                begin: b"input i(0) period 1\nprocess p { port a from i () {\n let x =\n",
+                begin: b"input i(0) period 100\nprocess p { port a from i () {\n let x =\n",
                 before: b" # ",
                 behind: b"\n-\n",
                 middle: b"1",
@@ -549,11 +561,12 @@ fn limits_hold_at_them_and_one_past(rt: HostRuntime) -> Result<(), Fail> {
                 end: b"} }\n",
             },
             31_u16,
+            "accepted 1 34/100\n",
             "graph syntax 67 1\n",
         ),
         (
             Grown {
-                begin: b"input i(0) period 1\nprocess p { port a from i () {\n let x =\n",
+                begin: b"input i(0) period 100\nprocess p { port a from i () {\n let x =\n",
                 before: b" # ",
                 behind: b"\nnot\n",
                 middle: b"1",
@@ -561,10 +574,11 @@ fn limits_hold_at_them_and_one_past(rt: HostRuntime) -> Result<(), Fail> {
                 end: b"} }\n",
             },
             31_u16,
+            "accepted 1 34/100\n",
             "graph syntax 67 1\n",
         ),
     ] {
-        check(&rt, grown.text(rt.alloc(), count)?, "notyet\n")?;
+        check(&rt, grown.text(rt.alloc(), count)?, passes)?;
         check(&rt, grown.text(rt.alloc(), count.saturating_add(1))?, line)?;
     }
     Ok(())

@@ -2,16 +2,15 @@
 ghost use Rattle.std.specs.Prelude.{◌≡◌, ◌<◌, ◌^◌, [], ◌∷◌, pos, IfOk};
 ghost use Rattle.yt_graph.specs.declared.expr.Op2.TheVariants.{Add};
 ghost use Rattle.yt_graph.specs.Picture.{block_tree, empty, graph_tree, local, more, more_exprs, no_exprs, num, send, two};
-ghost use Rattle.yt_run.specs.First.{FitsFirst, IsFirstGraph, KeepsPeriod};
-ghost use Rattle.yt_run.specs.Serial.{period_of};
+ghost use Rattle.yt_run.specs.First.{FitsFirst, IsFirstGraph, KeepsPeriod, the_period};
 
 use super::*;
-use crate::job::Segment;
 use std::test::Fail;
 use yt_graph::{
     Feed, Input, Inputs, Op2, OutHead, OutHeads, Output, Outputs, Port, Ports, Stmt, Vars,
 };
 use yt_list::{Name, Names};
+use yt_log::Segment;
 
 fn name(alloc: Global, text: &[u8]) -> Result<Name, AllocError> {
     Ok(Name::from_vec(Vec::from_slice(alloc, text)?))
@@ -38,7 +37,7 @@ fn adding(alloc: Global, number: u64) -> Result<Graph, AllocError>
     requires { number < 2 ^ 63 }
     ensures first { IfOk result (λ graph. IsFirstGraph (graph_tree graph)) }
     ensures fits { IfOk result (λ graph. FitsFirst (graph_tree graph)) }
-    ensures period { IfOk result (λ graph. period_of (graph_tree graph) ≡ 10) }
+    ensures period { IfOk result (λ graph. the_period (graph_tree graph) ≡ 10) }
 {
     let input = Input {
         name: name(alloc, b"tick")?,

@@ -1,61 +1,42 @@
-use Rattle.std.proofs.Common.{◌≡◌, ⊎_elim, sym, ap, subst, ◌∙◌, refl}
-use Rattle.std.specs.Prelude.{codes}
+use Rattle.std.proofs.Common.{◌≡◌, ◌-◌, length, take, drop, sym, subst, ◌∙◌}
+use Rattle.std.proofs.lemmas.List.{take_rest}
 use Rattle.yt_graph.specs.AstPicture.{ast_tree}
-use Rattle.yartos.specs.declared.status.Status.TheVariants.{Done, Graph, NotYet}
-use Rattle.yt_graph.specs.Picture.{graph_tree}
-use Rattle.yartos.specs.declared.stage.Stage.TheVariants.{Operator, Unbuilt}
+use Rattle.yt_parser.specs.CanonicalText.{canonical_text}
 use Rattle.yt_parser.specs.SamePlaces.{ReadsAs}
-use Rattle.yartos.specs.Answer.{IsDueOf}
+use Rattle.yartos.specs.declared.words.Command.TheVariants.{Form, Graph}
+use Rattle.yartos.specs.Answer.{IsDueAt, IsDueOf, settled, spelled}
 use Rattle.yartos.specs.Reads.{contents}
-use Rattle.yartos.specs.RunAnswer.{IsRunDue}
-use Rattle.yartos.specs.Stages.{operator, prints, misnamed, costly, unbuilt, runs, stage_found}
-use Rattle.yartos.proofs.Judged.{if_ok_from, not_yet_due, refused_due, run_due_at, staged_due}
+use Rattle.yartos.specs.Stages.{stage_of}
+use Rattle.yartos.proofs.Judged.{due_of, if_ok_from}
 use Rattle.yartos.proofs.command.judge.Goals as goal
 
-pub returns-in-Refused : goal.returns-in-Refused
-returns-in-Refused c =
-    let line = rw c.in-Refused.is at c.in_ok-ast.ensures in
-    refused_due c.args.command c.args.files.now c.index-files-0.result c.deref.result.now c.in-Refused.text c.requires.count c.index-files-0.is c.deref.ensures.value line
+pub returns-in_ok-print_graph-in-Tree : goal.returns-in_ok-print_graph-in-Tree
+returns-in_ok-print_graph-in-Tree c =
+    let items = ast_tree c.in-Tree.ast in
+    let read = rw c.in-Tree.is at c.in_ok-ast-in-Form.ensures in
+    let bytes : c.done.result.text ≡ c.in_ok-print_graph-in-Tree.field-0.items = c.done.ensures.text ∙ c.from_bytes.ensures in
+    let printed : c.done.result.text ≡ canonical_text items = bytes ∙ c.in_ok-print_graph-in-Tree.ensures.text in
+    let back : ReadsAs c.done.result.text items = subst (λ text. ReadsAs text items) (sym bytes) c.in_ok-print_graph-in-Tree.ensures.read in
+    due_of c.args.command Form c.args.files.now c.index-files-0-in-Form.result c.deref-in-Form.result.now c.done.result.status c.done.result.text c.in-Form.is c.requires.count c.index-files-0-in-Form.is c.deref-in-Form.ensures.value
+    (spelled items read.0 read.1 (c.done.ensures.status, printed, back))
 
-pub returns-in-Operator : goal.returns-in-Operator
-returns-in-Operator c =
-    let tree = (rw c.in-Tree.is at c.in_ok-ast.ensures).0 in
-    let due : IsDueOf c.args.command (contents c.args.files.now) NotYet (codes "notyet\n") =
-    ⊎_elim
-    (λ (e : c.in_ok-stage_of.field-0 ≡ Operator). staged_due c.args.command c.args.files.now c.index-files-0.result c.deref.result.now (ast_tree c.in-Tree.ast) operator NotYet (codes "notyet\n") c.requires.count c.index-files-0.is c.deref.ensures.value
-    tree (sym (ap stage_found e) ∙ c.in_ok-stage_of.ensures) (refl, refl))
-    (λ (e : c.in_ok-stage_of.field-0 ≡ Unbuilt). staged_due c.args.command c.args.files.now c.index-files-0.result c.deref.result.now (ast_tree c.in-Tree.ast) unbuilt NotYet (codes "notyet\n") c.requires.count c.index-files-0.is c.deref.ensures.value
-    tree (sym (ap stage_found e) ∙ c.in_ok-stage_of.ensures) (refl, refl))
-    c.in-Operator.is in
-    not_yet_due (λ a. a.status) (λ a. a.text) (IsDueOf c.args.command (contents c.args.files.now)) c.not_yet.result c.not_yet.ensures.status c.not_yet.ensures.text due
+pub returns-in-Settled : goal.returns-in-Settled
+returns-in-Settled c =
+    due_of c.args.command Form c.args.files.now c.index-files-0-in-Form.result c.deref-in-Form.result.now c.in-Settled.answer.status c.in-Settled.answer.text c.in-Form.is c.requires.count c.index-files-0-in-Form.is
+    c.deref-in-Form.ensures.value (settled (rw c.in-Settled.is at c.in_ok-ast-in-Form.ensures))
 
-pub returns-in-Prints : goal.returns-in-Prints
-returns-in-Prints c =
-    let tree = (rw c.in-Tree.is at c.in_ok-ast.ensures).0 in
-    let stage = rw c.in-Prints.is at c.in_ok-stage_of.ensures in
-    staged_due c.args.command c.args.files.now c.index-files-0.result c.deref.result.now (ast_tree c.in-Tree.ast) prints Done c.from_bytes.result c.requires.count c.index-files-0.is c.deref.ensures.value
-    tree stage (refl, c.from_bytes.ensures ∙ c.in_ok-print_graph-in-Prints.ensures.text, subst (λ text. ReadsAs text (ast_tree c.in-Tree.ast)) (sym c.from_bytes.ensures) c.in_ok-print_graph-in-Prints.ensures.read)
+pub returns-in-Tree-2 : goal.returns-in-Tree-2
+returns-in-Tree-2 c =
+    let read = rw c.in-Tree-2.is at c.in_ok-ast-in-Graph.ensures in
+    let items = ast_tree c.in-Tree-2.ast in
+    let question = c.in-Graph.question in
+    let rest = take (length c.args.files.now - 1) (drop 1 c.args.files.now) in
+    if_ok_from (λ a. IsDueAt question items (stage_of items) (contents rest) a.status a.text) (λ a. IsDueOf c.args.command (contents c.args.files.now) a.status a.text) c.judge_graph.result
+    (λ a h. due_of c.args.command (Graph c.in-Graph.question) c.args.files.now c.index-files-0-in-Graph.result c.deref-in-Graph.result.now a.status a.text c.in-Graph.is c.requires.count c.index-files-0-in-Graph.is
+    c.deref-in-Graph.ensures.value (spelled items read.0 read.1 (subst (λ files. IsDueAt question items (stage_of items) (contents files) a.status a.text) (take_rest c.args.files.now 1) h)))
+    c.judge_graph.ensures
 
-pub returns-in-Misnamed : goal.returns-in-Misnamed
-returns-in-Misnamed c =
-    let tree = (rw c.in-Tree.is at c.in_ok-ast.ensures).0 in
-    let stage = rw c.in-Misnamed.is at c.in_ok-stage_of.ensures in
-    staged_due c.args.command c.args.files.now c.index-files-0.result c.deref.result.now (ast_tree c.in-Tree.ast) (misnamed c.in-Misnamed.fault) Graph c.in_ok-name_line-in-Misnamed.field-0 c.requires.count c.index-files-0.is c.deref.ensures.value
-    tree stage (refl, c.in_ok-name_line-in-Misnamed.ensures)
-
-pub returns-in-Costly : goal.returns-in-Costly
-returns-in-Costly c =
-    let tree = (rw c.in-Tree.is at c.in_ok-ast.ensures).0 in
-    let stage = rw c.in-Costly.is at c.in_ok-stage_of.ensures in
-    staged_due c.args.command c.args.files.now c.index-files-0.result c.deref.result.now (ast_tree c.in-Tree.ast) (costly (graph_tree c.in-Costly.graph) c.in-Costly.fault) Graph c.in_ok-cost_line-in-Costly.field-0 c.requires.count c.index-files-0.is c.deref.ensures.value
-    tree stage (refl, c.in_ok-cost_line-in-Costly.ensures)
-
-pub returns : goal.returns
-returns c =
-    let tree = (rw c.in-Tree.is at c.in_ok-ast.ensures).0 in
-    let stage = rw c.in-Runs.is at c.in_ok-stage_of.ensures in
-    if_ok_from (λ a. IsRunDue c.deref-in-Runs.result.now c.deref-in-Runs-2.result.now a.status a.text) (λ a. IsDueOf c.args.command (contents c.args.files.now) a.status a.text) c.judge_run.result
-    (λ a due. staged_due c.args.command c.args.files.now c.index-files-0.result c.deref.result.now (ast_tree c.in-Tree.ast) runs a.status a.text c.requires.count c.index-files-0.is c.deref.ensures.value
-    tree stage (run_due_at c.args.command c.args.files.now c.index-files-1.result c.deref-in-Runs.result.now c.deref-in-Runs-2.result.now (ast_tree c.in-Tree.ast) a.status a.text c.requires.count c.index-files-1.is c.deref-in-Runs-2.ensures.value
-    (c.deref-in-Runs.ensures.value ∙ c.in_ok-print_graph-in-Runs.ensures.text) stage due))
-    c.judge_run.ensures
+pub returns-in-Settled-2 : goal.returns-in-Settled-2
+returns-in-Settled-2 c =
+    due_of c.args.command (Graph c.in-Graph.question) c.args.files.now c.index-files-0-in-Graph.result c.deref-in-Graph.result.now c.in-Settled-2.answer.status c.in-Settled-2.answer.text c.in-Graph.is c.requires.count
+    c.index-files-0-in-Graph.is c.deref-in-Graph.ensures.value (settled (rw c.in-Settled-2.is at c.in_ok-ast-in-Graph.ensures))

@@ -1,55 +1,81 @@
-use Rattle.std.proofs.Common.{◌≡◌, ◌≤◌, length, None, sym, ap, subst, ◌∙◌}
+use Rattle.std.proofs.Common.{◌≡◌, ◌≤◌, length, None, Some, rules, sym, ap, subst, ◌∙◌}
+use Rattle.std.specs.Prelude.{IsTrue}
 use Rattle.std.specs.List.{All}
+use Rattle.yt_graph.specs.AstPicture.{ast_tree}
 use Rattle.yt_graph.specs.Picture.{graph_tree}
-use Rattle.yt_run.specs.Serial.{period_of}
-use Rattle.yartos.specs.FirstParts.{parts_of}
-use Rattle.yartos.specs.TraceText.{fault_in}
-use Rattle.yartos.specs.RunAnswer.{IsRunDue}
-use Rattle.yartos.proofs.Judged.{not_yet_due}
-use Rattle.yartos.proofs.RunLemmas.{overload_due, fits_due, no_trace_due, readable_names, run_due}
+use Rattle.yt_run.specs.First.{the_period}
+use Rattle.yt_run.specs.RunText.{read_back, run_text}
+use Rattle.yartos.specs.NotYet.{IsNotYet}
+use Rattle.yartos.specs.RunAnswer.{IsNotRunYet, IsRunDue, input_name}
+use Rattle.yartos.specs.TraceText.{IsTraceText, fault_in}
+use Rattle.yartos.proofs.Judged.{if_ok_from}
+use Rattle.yartos.proofs.RunLemmas.{fits_first, name_by, not_yet_run, period_by, readable_names, reads_by, run_due}
 use Rattle.yartos.proofs.TracePeriod.{few_messages, times_fit, keeps_period}
 use Rattle.yartos.proofs.run_answer.judge_run.Goals as goal
 
-pub returns-then-first_cost-first_period : goal.returns-then-first_cost-first_period
-returns-then-first_cost-first_period c =
-    overload_due c.args.graph.now c.in_ok-overload_text.field-0 (parts_of c.in-Some.parts) c.in-Some.parts.param.now (graph_tree c.in_ok-graph.graph) c.first_cost.result c.first_period.result
-    c.in-Some.ensures.some c.in_ok-graph.ensures c.first_cost.ensures.cost c.first_period.ensures.period c.if-first_cost-first_period.true c.in_ok-overload_text.ensures
-
-pub returns-in_default-2 : goal.returns-in_default-2
-returns-in_default-2 c =
-    let fits = fits_due (parts_of c.in-Some.parts) (graph_tree c.in_ok-graph.graph) c.first_cost.result c.first_period.result
-    c.in_ok-graph.ensures c.first_cost.ensures.cost c.first_period.ensures.period c.if-first_cost-first_period.false in
-    let none = rw c.in_default-2.is at c.in_ok-messages.ensures in
-    not_yet_due (λ a. a.status) (λ a. a.text) (IsRunDue c.args.graph.now c.args.trace.now) c.not_yet-in_default-2.result c.not_yet-in_default-2.ensures.status c.not_yet-in_default-2.ensures.text
-    (no_trace_due c.args.graph.now c.args.trace.now (parts_of c.in-Some.parts) c.in-Some.parts.param.now c.in-Some.ensures.some fits none)
+pub returns-in_default : goal.returns-in_default
+returns-in_default c =
+    let g = graph_tree c.args.graph.now in
+    let trace = c.args.trace.now in
+    let none = rw c.in_default.is at c.in_ok-messages.ensures in
+    let named : c.as_slice.result.now ≡ input_name g = c.as_slice.ensures ∙ sym (name_by g c.at-input.result.now c.at-input.ensures.get) in
+    let due : IsNotRunYet (ast_tree c.args.ast.now) g trace = λ runs messages traced. none messages (subst (λ name. IsTraceText trace name messages) (sym named) traced) in
+    if_ok_from (λ a. IsNotYet a.status a.text) (λ a. IsRunDue (ast_tree c.args.ast.now) g trace a.status a.text) c.not_yet-in_default.result (λ a h. not_yet_run (ast_tree c.args.ast.now) g trace a.status a.text due h) c.not_yet-in_default.ensures
 
 pub first_fault-requires-clause-few : goal.first_fault-requires-clause-few
 first_fault-requires-clause-few c =
-    let traced = rw c.in-Some-2.is at c.in_ok-messages.ensures in
-    let few = few_messages c.args.trace.now c.in-Some.parts.input.now c.in-Some-2.messages traced in
-    subst (λ ms. length ms ≤ 200000) (sym c.as_slice.ensures) few
+    let traced = rw c.in-Some.is at c.in_ok-messages.ensures in
+    subst (λ ms. length ms ≤ 200000) (sym c.as_slice-2.ensures) (few_messages c.args.trace.now c.as_slice.result.now c.in-Some.messages traced)
 
 pub first_fault-requires-clause-times : goal.first_fault-requires-clause-times
 first_fault-requires-clause-times c =
-    let traced = rw c.in-Some-2.is at c.in_ok-messages.ensures in
-    let times = times_fit c.args.trace.now c.in-Some.parts.input.now c.in-Some-2.messages traced in
-    subst (λ ms. All (λ message. message.time ≤ 4000000) ms) (sym c.as_slice.ensures) times
+    let traced = rw c.in-Some.is at c.in_ok-messages.ensures in
+    subst (λ ms. All (λ message. message.time ≤ 4000000) ms) (sym c.as_slice-2.ensures) (times_fit c.args.trace.now c.as_slice.result.now c.in-Some.messages traced)
+
+pub returns-in-Some-first_fault : goal.returns-in-Some-first_fault
+returns-in-Some-first_fault c =
+    let g = graph_tree c.args.graph.now in
+    let traced = rw c.in-Some.is at c.in_ok-messages.ensures in
+    let yes : IsTrue c.is_first.result = search rules in
+    let named : c.as_slice.result.now ≡ input_name g = c.as_slice.ensures ∙ sym (name_by g c.at-input.result.now c.at-input.ensures.get) in
+    let period : the_period g ≡ c.at-input.result.now.period = period_by g c.at-input.result.now (c.is_first.ensures.0 yes).1 c.at-input.ensures.get in
+    record {
+      read = reads_by (ast_tree c.args.ast.now) g c.args.trace.now c.as_slice.result.now c.in-Some.messages c.requires.well_formed (c.is_first.ensures.0 yes) named traced;
+      fault = c.in-Some-first_fault.fault;
+      found = ap (λ p. fault_in p c.in-Some.messages) period ∙ ap (fault_in c.at-input.result.now.period) (sym c.as_slice-2.ensures) ∙ sym c.first_fault.ensures ∙ c.in-Some-first_fault.is;
+      printed = c.in_ok-fault_text.ensures;
+    }
+
+pub run_first-requires-clause-fits : goal.run_first-requires-clause-fits
+run_first-requires-clause-fits c =
+    let yes : IsTrue c.is_first.result = search rules in
+    fits_first (graph_tree c.args.graph.now) (c.is_first.ensures.0 yes).1 c.requires.fits.loads
 
 pub run_first-requires-clause-keeps : goal.run_first-requires-clause-keeps
 run_first-requires-clause-keeps c =
-    let traced = rw c.in-Some-2.is at c.in_ok-messages.ensures in
-    let period : period_of (graph_tree c.in_ok-graph.graph) ≡ c.in-Some.parts.period = ap period_of c.in_ok-graph.ensures in
-    let none : fault_in (period_of (graph_tree c.in_ok-graph.graph)) c.in-Some-2.messages ≡ None =
-    ap (λ p. fault_in p c.in-Some-2.messages) period ∙ ap (fault_in c.in-Some.parts.period) (sym c.as_slice.ensures) ∙ sym c.first_fault.ensures ∙ c.in_default-first_fault.is in
-    keeps_period (graph_tree c.in_ok-graph.graph) c.args.trace.now c.in-Some.parts.input.now c.in-Some-2.messages traced none
+    let g = graph_tree c.args.graph.now in
+    let yes : IsTrue c.is_first.result = search rules in
+    let traced = rw c.in-Some.is at c.in_ok-messages.ensures in
+    let period : the_period g ≡ c.at-input.result.now.period = period_by g c.at-input.result.now (c.is_first.ensures.0 yes).1 c.at-input.ensures.get in
+    let none : fault_in (the_period g) c.in-Some.messages ≡ None =
+    ap (λ p. fault_in p c.in-Some.messages) period ∙ ap (fault_in c.at-input.result.now.period) (sym c.as_slice-2.ensures) ∙ sym c.first_fault.ensures ∙ c.in_default-first_fault.is in
+    keeps_period g c.args.trace.now c.as_slice.result.now c.in-Some.messages traced none
 
 pub returns : goal.returns
 returns c =
-    let traced = rw c.in-Some-2.is at c.in_ok-messages.ensures in
-    let fits = fits_due (parts_of c.in-Some.parts) (graph_tree c.in_ok-graph.graph) c.first_cost.result c.first_period.result
-    c.in_ok-graph.ensures c.first_cost.ensures.cost c.first_period.ensures.period c.if-first_cost-first_period.false in
-    let none : fault_in c.in-Some.parts.period c.in-Some-2.messages ≡ None =
-    ap (fault_in c.in-Some.parts.period) (sym c.as_slice.ensures) ∙ sym c.first_fault.ensures ∙ c.in_default-first_fault.is in
-    let names = readable_names c.args.graph.now (parts_of c.in-Some.parts) c.in-Some.parts.param.now (graph_tree c.in_ok-graph.graph) c.in-Some.ensures.some c.in_ok-graph.ensures in
-    run_due c.args.graph.now c.args.trace.now c.in_ok-run_text.field-0 (parts_of c.in-Some.parts) c.in-Some.parts.param.now (graph_tree c.in_ok-graph.graph) c.in-Some-2.messages
-    c.in_ok-told.told.log c.in_ok-told.told.outs c.in-Some.ensures.some c.in_ok-graph.ensures fits traced none c.in_ok-run_text.ensures c.in_ok-told.ensures.promised (c.in_ok-told.ensures.read_back names)
+    let g = graph_tree c.args.graph.now in
+    let traced = rw c.in-Some.is at c.in_ok-messages.ensures in
+    let yes : IsTrue c.is_first.result = search rules in
+    let runs = c.is_first.ensures.0 yes in
+    let named : c.as_slice.result.now ≡ input_name g = c.as_slice.ensures ∙ sym (name_by g c.at-input.result.now c.at-input.ensures.get) in
+    let period : the_period g ≡ c.at-input.result.now.period = period_by g c.at-input.result.now (c.is_first.ensures.0 yes).1 c.at-input.ensures.get in
+    let printed : c.done.result.text ≡ run_text g c.in_ok-told.told.log c.in_ok-told.told.outs = c.done.ensures.text ∙ c.in_ok-run_text.ensures in
+    run_due (ast_tree c.args.ast.now) g c.args.trace.now c.done.result.status c.done.result.text c.done.ensures.status (record {
+      read = reads_by (ast_tree c.args.ast.now) g c.args.trace.now c.as_slice.result.now c.in-Some.messages c.requires.well_formed runs named traced;
+      legal = ap (λ p. fault_in p c.in-Some.messages) period ∙ ap (fault_in c.at-input.result.now.period) (sym c.as_slice-2.ensures) ∙ sym c.first_fault.ensures ∙ c.in_default-first_fault.is;
+      log = c.in_ok-told.told.log;
+      lines = c.in_ok-told.told.outs;
+      told = ap (read_back g) printed ∙ c.in_ok-told.ensures.read_back (readable_names g runs.1 c.requires.well_formed);
+      printed = printed;
+      promised = c.in_ok-told.ensures.promised;
+    })

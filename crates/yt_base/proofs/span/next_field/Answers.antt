@@ -3,7 +3,7 @@ use Rattle.std.specs.List.{prefix_len, position_or_len}
 use Rattle.std.proofs.lemmas.Grind.{common_steps}
 use Rattle.std.proofs.lemmas.List.Sums.{prefix_len_stops, prefix_len_passes}
 use Rattle.yt_base.specs.Lines.{is_blank}
-use Rattle.yt_base.proofs.Fields.{field_begins, fields_of_blanks, fields_of_step, range_of_range, range_behind}
+use Rattle.yt_base.proofs.FieldLemmas.{field_begins, fields_of_blanks, fields_of_step, range_of_range, range_behind}
 use Rattle.yt_base.proofs.span.next_field.Goals as goal
 
 pub returns-then-start-part-clause-none : goal.returns-then-start-part-clause-none

@@ -1,10 +1,10 @@
 use Rattle.std.proofs.Common.{◌+◌, ◌<◌, ◌≤◌, ◌^◌, sym, subst, arith}
 use Rattle.std.specs.List.{All}
 use Rattle.std.proofs.lemmas.List.Elements.{All-nil}
-use Rattle.yt_run.proofs.PrintedLines.{IsReadableLine}
 use Rattle.yt_graph.specs.Picture.{expr_tree}
-use Rattle.yt_run.proofs.ReadableRun.{push_readable, ends_readable}
 use Rattle.yt_run.proofs.FirstLemmas.{sent_is_sum}
+use Rattle.yt_run.proofs.PrintedLines.{IsReadableLine}
+use Rattle.yt_run.proofs.ReadableRun.{push_readable, ends_readable}
 use Rattle.yt_run.proofs.Running.{begins_at, goes_on_at, ends_at_last}
 use Rattle.yt_run.proofs.run.run_first.Goals as goal
 

@@ -27,7 +27,7 @@ pub invariant_of-result : goal.invariant_of-result
 invariant_of-result c =
     let old : NamedTasks = record { tasks = c.self.inside.tasks.items; labels = c.self.inside.labels; groups = c.self.inside.groups } in
     let room : length old.tasks < 64 = subst (λ r. length r.tasks < 64) (sym c.self.view_is) c.requires.room in
-    subst IsNamed (sym (added c)) (named_more old c.args.task.name.now c.args.task.cost c.args.task.period c.args.task.group.now c.self.invariant c.requires.cost c.requires.period room)
+    subst IsNamed (sym (added c)) (named_more old c.args.task.name.now c.args.task.cost c.args.task.period c.args.task.group.now c.self.invariant c.requires.cost c.requires.period c.requires.name c.requires.group room)
 
 pub returns : goal.returns
 returns c = added c ∙ ap (λ r. with_new r c.args.task) c.self.view_is

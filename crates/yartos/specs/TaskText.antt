@@ -1,0 +1,58 @@
+-- What is printed of a task set: its tasks, its load, and the arrivals that show that it doesn't fit.
+use Rattle.std.specs.Prelude.{ℕ, ◌+◌, ◌-◌, ◌==◌, List, [], ◌∷◌, ◌++◌, length, slice_index_or, codes, if◌then◌else◌}
+use Rattle.std.specs.Fmt.{decimal}
+use Rattle.yt_set.specs.declared.task.Task.{Task}
+use Rattle.yt_set.specs.NamedTasks.{NamedTasks}
+use Rattle.yt_set.specs.Printed.{task_line}
+use Rattle.yt_set.specs.Tasks.{hyperperiod, load}
+use Rattle.yt_log.specs.Patterns.{Arrivals}
+use Rattle.yt_witness.specs.declared.pattern.Pattern.{Pattern}
+use Rattle.yt_witness.specs.Witnesses.{arrivals_of, horizon}
+
+-- the name of a number, from 1; empty where there is none
+abbrev pub name_of : List (List ℕ) → ℕ → List ℕ
+name_of names number = slice_index_or names (number - 1) []
+
+-- a line for each of these tasks of a set, which are numbered from this number on
+abbrev pub task_lines : NamedTasks → ℕ → List Task → List ℕ
+task_lines set number [] = []
+task_lines set number (t ∷ tasks) =
+    task_line (name_of set.labels number) t (name_of set.groups t.resource) ++ (10 ∷ task_lines set (number + 1) tasks)
+
+-- a line for each task of a set
+abbrev pub tasks_text : NamedTasks → List ℕ
+tasks_text set = task_lines set 1 set.tasks
+
+-- the load over the hyperperiod, and the hyperperiod
+abbrev pub load_text : List Task → List ℕ
+load_text tasks = decimal (load tasks (hyperperiod tasks)) ++ (47 ∷ decimal (hyperperiod tasks))
+
+-- `accepted COUNT PART/WHOLE`
+abbrev pub accepted_text : List Task → List ℕ
+accepted_text tasks = codes "accepted " ++ (decimal (length tasks) ++ (32 ∷ load_text tasks ++ 10 ∷ []))
+
+-- `arrive NAME FIRST STEP COUNT COST`
+abbrev pub arrive_line : List ℕ → Arrivals → List ℕ
+arrive_line label a =
+    codes "arrive " ++ (label ++ (32 ∷ decimal a.first ++ (32 ∷ decimal a.step ++ (32 ∷ decimal a.count ++ (32 ∷ decimal a.cost ++ 10 ∷ [])))))
+
+-- the line of a task that arrives, and nothing of one that doesn't
+abbrev pub arrivals_text : List ℕ → Arrivals → List ℕ
+arrivals_text label a = if a.count == 0 then [] else arrive_line label a
+
+-- the arrivals of each of these tasks, which are numbered from this number on
+abbrev pub arrive_lines : List (List ℕ) → ℕ → List Arrivals → List ℕ
+arrive_lines labels number [] = []
+arrive_lines labels number (a ∷ arrivals) = arrivals_text (name_of labels number) a ++ arrive_lines labels (number + 1) arrivals
+
+-- the arrivals of a pattern, and the tick by which a deadline is missed
+abbrev pub pattern_text : List (List ℕ) → List Task → Pattern → List ℕ
+pattern_text labels tasks pattern = arrive_lines labels 1 (arrivals_of tasks pattern) ++ (codes "horizon " ++ (decimal (horizon pattern) ++ 10 ∷ []))
+
+-- an overload: the load over the hyperperiod, and a pattern
+abbrev pub overload_text : List (List ℕ) → List Task → Pattern → List ℕ
+overload_text labels tasks pattern = codes "overload load " ++ (load_text tasks ++ (10 ∷ pattern_text labels tasks pattern))
+
+-- `graph hyperperiod PORT` or `set hyperperiod NAME`
+abbrev pub hyperperiod_line : List ℕ → List ℕ → List ℕ
+hyperperiod_line kind label = kind ++ (codes " hyperperiod " ++ (label ++ 10 ∷ []))

@@ -1,0 +1,9 @@
+mod Changes
+mod Countings
+mod LongerLogs
+mod Playings
+mod Readings
+mod Releases
+mod Sounds
+mod Standing
+mod Ticking

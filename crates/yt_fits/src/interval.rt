@@ -1,0 +1,138 @@
+//! The condition on tasks under resources.
+ghost use Rattle.std.specs.Prelude.{◌≡◌, ◌+◌, ◌-◌, ◌*◌, ◌/◌, ◌<◌, ◌≤◌, ◌↔◌, None, IfSome, IsTrue, length};
+ghost use Rattle.std.specs.List.{All};
+ghost use Rattle.yt_set.specs.Tasks.{FitsInterval, demand_bound};
+ghost use Rattle.yt_fits.specs.Intervals.{HaveRoom, IsFirstBreach, IsLowestBreach, LacksRoom};
+
+use yt_set::{Task, TaskSet};
+
+/// A span in which a job that keeps its resource leaves too little room for others.
+#[derive(Clone, Copy, Debug, PartialEq, Eq)]
+pub struct Breach {
+    /// The job's task, by its number from 1.
+    pub task: u32,
+    /// The length of the span in ticks.
+    pub len: u64,
+    /// The ticks that can be asked for in it.
+    pub need: u128,
+}
+
+/// The shortest span in which a job that keeps its resource leaves too little room for others, and the lowest task whose job
+/// does so in it. `None` comes exactly where none does. Takes no memory.
+///
+/// What is asked for grows at multiples of periods alone, so only the spans that are a tick longer than one of these are tried.
+pub fn interval_plain(set: &TaskSet) -> Option<Breach>
+    ensures some { IfSome result (λ breach. IsFirstBreach set.now breach) }
+    ensures none { result ≡ None ↔ FitsInterval set.now }
+{
+    // Tells the proof that the set is in range.
+    prove!(set.len() <= 64);
+    let longest = longest(set);
+    let mut point = 0;
+    while point + 1 < longest {
+        if let Some(breach) = breach_in(set, point + 1) {
+            return Some(breach);
+        }
+        point = next_point(set, point, longest);
+    }
+    None
+}
+
+/// The longest period of a task under a resource; 0 where no task is.
+fn longest(set: &TaskSet) -> u64
+    ensures longest { All (λ task. 1 ≤ task.resource → task.period ≤ result) set.now }
+    ensures bound { result ≤ 1000000 }
+{
+    let mut longest = 0;
+    for n in 0..set.len() {
+        let task = set.task(n + 1);
+        if task.resource != 0 {
+            longest = task.period.max(longest);
+        }
+    }
+    longest
+}
+
+/// The lowest task that lacks room in a span.
+fn breach_in(set: &TaskSet, span: u64) -> Option<Breach>
+    requires positive { 1 ≤ span }
+    requires short { span ≤ 1000000 }
+    ensures span { IfSome result (λ breach. breach.len ≡ span) }
+    ensures some { IfSome result (λ breach. IsLowestBreach set.now breach) }
+    ensures none { result ≡ None → HaveRoom set.now span set.now }
+{
+    let demand = demand(set, span - 1);
+    for n in 0..set.len() {
+        let task = set.task(n + 1);
+        if lacks_room(set, span, demand, task) {
+            return Some(Breach {
+                task: n + 1,
+                len: span,
+                need: u128::from(task.cost + demand),
+            });
+        }
+    }
+    None
+}
+
+/// Whether a task lacks room in a span. The demand is that of a tick less.
+fn lacks_room(set: &TaskSet, span: u64, demand: u64, task: Task) -> bool
+    requires demand { demand ≡ demand_bound set.now (span - 1) }
+    requires small { demand ≤ 64000000000000 }
+    requires cheap { task.cost ≤ 1000000 }
+    ensures { IsTrue result ↔ LacksRoom set.now span task }
+{
+    span < task.period
+        && span < task.cost + demand
+        && set.floor(task.resource).is_some_and(|floor| floor < span)
+}
+
+/// The demand of so many ticks.
+fn demand(set: &TaskSet, ticks: u64) -> u64
+    requires { ticks ≤ 1000000 }
+    ensures value { result ≡ demand_bound set.now ticks }
+    ensures bound { result ≤ 64000000000000 }
+{
+    let mut demand = 0;
+    for n in 0..set.len() {
+        demand += cost_due(set.task(n + 1), ticks);
+    }
+    demand
+}
+
+/// What the jobs of a task cost that can arrive and be due within so many ticks.
+fn cost_due(task: Task, ticks: u64) -> u64
+    requires positive { 1 ≤ task.period }
+    requires cheap { task.cost ≤ 1000000 }
+    requires short { ticks ≤ 1000000 }
+    ensures value { result ≡ ticks / task.period * task.cost }
+    ensures bound { result ≤ 1000000000000 }
+{
+    ticks / task.period * task.cost
+}
+
+/// The least multiple of a period behind a tick, or the end where none comes before it.
+fn next_point(set: &TaskSet, point: u64, end: u64) -> u64
+    requires before { point < end }
+    requires short { end ≤ 1000000 }
+    ensures later { point < result }
+    ensures end { result ≤ end }
+    ensures first { All (λ task. result ≤ (point / task.period + 1) * task.period) set.now }
+{
+    let mut next = end;
+    for n in 0..set.len() {
+        next = next.min(multiple_behind(set.task(n + 1).period, point));
+    }
+    next
+}
+
+/// The least multiple of a period behind a tick.
+fn multiple_behind(period: u64, point: u64) -> u64
+    requires positive { 1 ≤ period }
+    requires short { period ≤ 1000000 }
+    requires point { point ≤ 1000000 }
+    ensures value { result ≡ (point / period + 1) * period }
+    ensures later { point < result }
+{
+    (point / period + 1) * period
+}

@@ -1,0 +1,16 @@
+//! Judging logs: what they miss, and which rule they break first.
+
+mod broken;
+mod counts;
+mod heads;
+mod miss;
+mod stretch;
+
+pub use broken::{Broken, Rule, first_broken};
+pub use miss::first_miss;
+
+/// How many tasks a set has at most.
+const MOST_TASKS: usize = 64;
+
+#[cfg(test)]
+mod tests;

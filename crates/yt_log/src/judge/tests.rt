@@ -1,0 +1,205 @@
+use super::*;
+use crate::job::Job;
+use crate::log::Log;
+use crate::plan::{Plan, PlanItem};
+use std::alloc::Global;
+use std::test::Fail;
+use yt_set::{Task, TaskSet};
+
+const A: Job = Job { task: 1, number: 1 };
+
+const A_2: Job = Job { task: 1, number: 2 };
+
+const K: Job = Job { task: 2, number: 1 };
+
+const B: Job = Job { task: 3, number: 1 };
+
+/// A short period without a resource, and two tasks that share one, of which the second is long.
+const SHARING: [Task; 3] = [
+    Task {
+        cost: 2,
+        period: 5,
+        resource: 0,
+    },
+    Task {
+        cost: 1,
+        period: 8,
+        resource: 1,
+    },
+    Task {
+        cost: 4,
+        period: 40,
+        resource: 1,
+    },
+];
+
+const JOBS: [PlanItem; 4] = [
+    PlanItem {
+        job: B,
+        arrival: 0,
+        cost: 4,
+    },
+    PlanItem {
+        job: A,
+        arrival: 1,
+        cost: 2,
+    },
+    PlanItem {
+        job: K,
+        arrival: 1,
+        cost: 1,
+    },
+    PlanItem {
+        job: A_2,
+        arrival: 6,
+        cost: 2,
+    },
+];
+
+/// Logs of these jobs, the ticks that they have, and what they break first.
+const BROKEN: [(&[(u64, u64, Job)], u64, Option<(u64, Rule)>); 13] = [
+    (&[], 0, None),
+    (&[], 3, Some((0, Rule::Idle))),
+    (&[(0, 1, B)], 1, None),
+    (
+        &[(0, 1, B), (1, 3, A), (3, 6, B), (6, 7, K), (7, 9, A_2)],
+        12,
+        None,
+    ),
+    (
+        &[(0, 1, B), (1, 3, A), (3, 4, K), (4, 7, B), (7, 9, A_2)],
+        9,
+        Some((3, Rule::Shared)),
+    ),
+    (
+        &[(0, 1, B), (1, 3, A), (4, 7, B), (7, 8, K), (8, 10, A_2)],
+        10,
+        Some((3, Rule::Idle)),
+    ),
+    (&[(0, 2, A), (2, 6, B)], 6, Some((0, Rule::Unlawful))),
+    (&[(0, 2, B), (2, 4, A)], 4, Some((1, Rule::NotLeast))),
+    (&[(0, 1, B), (1, 4, A)], 4, Some((3, Rule::Unlawful))),
+    (&[(0, 1, B), (1, 2, K)], 2, Some((1, Rule::Shared))),
+    (
+        &[(0, 1, B), (1, 3, A), (3, 6, B), (6, 8, A_2)],
+        8,
+        Some((6, Rule::NotLeast)),
+    ),
+    (
+        &[(0, 1, B), (1, 3, A), (3, 6, B), (6, 7, K), (7, 10, A_2)],
+        10,
+        Some((9, Rule::Unlawful)),
+    ),
+    (&[(0, 1, B), (1, 2, A_2)], 2, Some((1, Rule::Unlawful))),
+];
+
+/// Logs of these jobs, the ticks up to which they are judged, and the job that misses first.
+const MISSES: [(&[(u64, u64, Job)], u64, Option<Job>); 9] = [
+    (&[], 5, None),
+    (&[], 6, Some(A)),
+    (&[(4, 6, A)], 8, None),
+    (&[(5, 7, A)], 8, Some(A)),
+    (&[(0, 2, A)], 9, Some(K)),
+    (&[(0, 2, A), (8, 9, K)], 10, None),
+    (&[(0, 2, A), (8, 9, K)], 11, Some(A_2)),
+    (&[(0, 2, A), (2, 4, A_2), (4, 5, K)], 39, None),
+    (&[(0, 2, A_2), (2, 4, A), (4, 5, K), (5, 8, B)], 40, Some(B)),
+];
+
+/// A plan of two tasks with the same deadline.
+const EQUALS: [PlanItem; 2] = [
+    PlanItem {
+        job: K,
+        arrival: 0,
+        cost: 3,
+    },
+    PlanItem {
+        job: A,
+        arrival: 0,
+        cost: 3,
+    },
+];
+
+fn set_of(alloc: Global, tasks: &[Task]) -> Result<TaskSet, Fail> {
+    match TaskSet::new(Vec::from_slice(alloc, tasks)?) {
+        Ok(set) => Ok(set),
+        Err(_) => Err("no set".into()),
+    }
+}
+
+fn plan_of(alloc: Global, items: &[PlanItem]) -> Result<Plan, Fail> {
+    let mut plan = Plan::new(alloc);
+    for item in items {
+        if plan.last_arrival() <= item.arrival {
+            plan.push(*item)?;
+        }
+    }
+    Ok(plan)
+}
+
+fn log_of(alloc: Global, runs: &[(u64, u64, Job)], until: u64) -> Result<Log, Fail> {
+    let mut log = Log::new(alloc);
+    for (from, to, job) in runs {
+        log.tell_idle(*from);
+        if log.until() < 1_000 && *to < 1_000 {
+            log.tell_run(*job, to.saturating_sub(*from))?;
+        }
+    }
+    log.tell_idle(until);
+    Ok(log)
+}
+
+#[test]
+fn the_first_broken_rule_is_told(rt: HostRuntime) -> Result<(), Fail> {
+    let alloc = rt.alloc();
+    let set = set_of(alloc, &SHARING)?;
+    let plan = plan_of(alloc, &JOBS)?;
+    if !plan.legal(&set) {
+        return Err("no plan".into());
+    }
+    for (runs, until, expected) in &BROKEN {
+        let log = log_of(alloc, runs, *until)?;
+        let broken = match first_broken(&set, &plan, &log) {
+            Some(broken) => Some((broken.tick, broken.rule)),
+            None => None,
+        };
+        assert_eq!(rt; broken, *expected);
+    }
+    Ok(())
+}
+
+#[test]
+fn the_first_miss_is_told(rt: HostRuntime) -> Result<(), Fail> {
+    let alloc = rt.alloc();
+    let set = set_of(alloc, &SHARING)?;
+    let plan = plan_of(alloc, &JOBS)?;
+    if !plan.legal(&set) {
+        return Err("no plan".into());
+    }
+    for (runs, upto, expected) in &MISSES {
+        let log = log_of(alloc, runs, *upto)?;
+        if *upto <= log.until() {
+            assert_eq!(rt; first_miss(&set, &plan, &log, *upto), *expected);
+        }
+    }
+    Ok(())
+}
+
+#[test]
+fn of_equal_deadlines_the_first_task_misses(rt: HostRuntime) -> Result<(), Fail> {
+    let alloc = rt.alloc();
+    let task = Task {
+        cost: 3,
+        period: 5,
+        resource: 0,
+    };
+    let set = set_of(alloc, &[task, task])?;
+    let plan = plan_of(alloc, &EQUALS)?;
+    let log = log_of(alloc, &[(0, 2, K)], 5)?;
+    if !plan.legal(&set) || log.until() < 5 {
+        return Err("no plan".into());
+    }
+    assert_eq!(rt; first_miss(&set, &plan, &log, 4), None);
+    assert_eq!(rt; first_miss(&set, &plan, &log, 5), Some(A));
+    Ok(())
+}

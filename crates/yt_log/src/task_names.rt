@@ -1,0 +1,57 @@
+//! The tasks of a set by their names.
+ghost use Rattle.std.specs.Prelude.{◌≡◌, ◌≤◌, length, IfOk, IfSome};
+ghost use Rattle.yt_set.specs.Tasks.{IsTaskSet};
+ghost use Rattle.yt_log.specs.PlanText.{task_named};
+
+use crate::numbers::Numbers;
+use std::alloc::{AllocError, Global};
+use std::marker::Model;
+use yt_set::{NamedSet, TaskSet};
+
+/// The tasks of a set, which are found by their names. A contract sees the set.
+#[derive(Drop)]
+pub(crate) struct TaskNames<'a> {
+    set: &'a NamedSet,
+    numbers: Numbers<'a>,
+}
+
+impl<'a> Model for TaskNames<'a> {
+    ghost use Rattle.yt_set.specs.NamedTasks.{NamedTasks};
+    ghost use Rattle.yt_log.specs.PlanReading.{IsNumbered};
+
+    ghost Value = { NamedTasks };
+
+    ghost view = { λ n. n.set.now };
+
+    ghost invariant = { λ n. IsNumbered n.set.now n.numbers };
+}
+
+impl<'a> TaskNames<'a> {
+    /// The tasks of this set.
+    pub(crate) fn new(alloc: Global, set: &'a NamedSet) -> Result<Self, AllocError>
+        ensures { IfOk result (λ names. names ≡ set.now) }
+    {
+        let mut numbers = Numbers::new(alloc);
+        for place in 0..set.set().len() {
+            numbers.give(set.label(place + 1), place + 1)?;
+        }
+        Ok(TaskNames { set, numbers })
+    }
+
+    /// The set. Whatever it is, it is in range.
+    pub(crate) fn set(&self) -> &TaskSet
+        ensures set { result.now ≡ self.now.tasks }
+        ensures in_range { IsTaskSet self.now.tasks }
+    {
+        self.set.set()
+    }
+
+    /// The number of the first task of a name, from 1; `None` exactly where no task has it.
+    pub(crate) fn find(&self, name: &[u8]) -> Option<u32>
+        ensures number { result ≡ task_named self.now.labels name.now }
+        ensures in_set { IfSome result (λ task. (1 ≤ task) × (task ≤ length self.now.tasks)) }
+        ensures in_range { IsTaskSet self.now.tasks }
+    {
+        self.numbers.find(name)
+    }
+}

@@ -1,0 +1,2 @@
+mod Falls
+pub mod Orders
