@@ -19,7 +19,7 @@ use Rattle.yt_rates.specs.Rates.{input_period}
 use Rattle.yt_rates.specs.Tables.{task_of, tasks_of}
 use Rattle.yt_run.specs.First.{First, graph_of, port_of, FitsFirst, IsFirstGraph, IsInRange, the_period}
 use Rattle.yt_run.specs.Readable.{is_not, stays_in_word, HasReadableNames}
-use Rattle.yt_run.specs.declared.trace.Message.{Message}
+use Rattle.yt_serial.specs.declared.trace.Message.{Message}
 use Rattle.yt_run.proofs.Pieces.{list_all-weaker}
 use Rattle.yt_run.proofs.ReadBackFirst.{HasReadableNames-first}
 use Rattle.yt_set.specs.declared.task.Task.{Task}

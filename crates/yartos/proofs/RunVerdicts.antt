@@ -2,7 +2,7 @@
 use Rattle.std.proofs.Common.{◌≡◌, ℕ, List, Option, Some, None, refl, sym, ap, ◌∙◌}
 use Rattle.yt_graph.specs.AstPicture.{ItemTree}
 use Rattle.yt_graph.specs.Picture.{GraphTree}
-use Rattle.yt_run.specs.declared.trace.Message.{Message}
+use Rattle.yt_serial.specs.declared.trace.Message.{Message}
 use Rattle.yt_run.specs.First.{the_period}
 use Rattle.yartos.specs.declared.status.Status.{Status}
 use Rattle.yartos.specs.declared.status.Status.TheVariants.{Done, Usage, Graph, Overload, Trace, ReadFault, WriteFault, Missed, NoMemory, Long, NotYet}

@@ -12,7 +12,7 @@ use Rattle.yt_graph.specs.Reserved.{is_reserved}
 use Rattle.yt_graph.specs.WellFormed.{IsWellFormed, IsFineGroup, IsFinePort, block_uses_var}
 use Rattle.yt_rates.specs.Tables.{task_of, tasks_of}
 use Rattle.yt_run.specs.RunText.{label_of}
-use Rattle.yt_run.specs.SerialHandling.{no_port}
+use Rattle.yt_serial.specs.SerialHandling.{no_port}
 use Rattle.yt_set.specs.declared.task.Task.{Task}
 use Rattle.yartos.specs.GraphTasks.{labels_of}
 use Rattle.yartos.specs.TaskText.{name_of}

@@ -4,7 +4,7 @@ use Rattle.std.specs.Prelude.{FitsSigned, All}
 use Rattle.std.specs.Int.{w64}
 use Rattle.std.proofs.lemmas.Grind.{common_steps}
 use Rattle.std.proofs.lemmas.List.Elements.{All-cons}
-use Rattle.yt_run.specs.declared.trace.Message.{Message}
+use Rattle.yt_serial.specs.declared.trace.Message.{Message}
 use Rattle.yt_graph.specs.Picture.{GraphTree}
 use Rattle.yt_run.specs.First.{AreFirstMessages, AreSpaced, KeepsPeriod, the_period}
 use Rattle.yartos.specs.TraceText.{IsTraceText, one_number, messages_in, AreInRange, fault_after, fault_in}

@@ -5,7 +5,7 @@ use Rattle.std.specs.Int.{w64}
 use Rattle.std.specs.Fmt.{decimal, signed_decimal}
 use Rattle.std.proofs.lemmas.Grind.{common_steps}
 use Rattle.std.proofs.lemmas.Fmt.{decimal_injective, signed_decimal_injective}
-use Rattle.yt_run.specs.declared.trace.Message.{Message}
+use Rattle.yt_serial.specs.declared.trace.Message.{Message}
 use Rattle.yt_graph.specs.Names.{is_name}
 use Rattle.yartos.specs.Split.{IsSplit}
 use Rattle.yartos.specs.TraceText.{message_line, one_number, trace_text, AreInRange, messages_in, IsTraceText}

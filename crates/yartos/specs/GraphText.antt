@@ -22,7 +22,7 @@ use Rattle.yt_parser.specs.Grammar.{Spells}
 use Rattle.yt_parser.specs.Lexemes.{toks_of}
 use Rattle.yt_parser.specs.Parses.{IsSyntaxFault}
 use Rattle.yt_run.specs.RunText.{port_label}
-use Rattle.yt_run.specs.SerialHandling.{no_port}
+use Rattle.yt_serial.specs.SerialHandling.{no_port}
 use Rattle.yartos.specs.declared.status.Status.{Status}
 use Rattle.yartos.specs.declared.status.Status.TheVariants.{Graph}
 use Rattle.yartos.specs.declared.graph_text.GraphRead.{GraphRead}

@@ -4,10 +4,10 @@ use Rattle.std.specs.Option.{option_map, unwrap_or}
 use Rattle.yt_graph.specs.Names.{is_name}
 use Rattle.yt_graph.specs.AstPicture.{ItemTree}
 use Rattle.yt_graph.specs.Picture.{GraphTree}
-use Rattle.yt_run.specs.declared.trace.Message.{Message}
-use Rattle.yt_run.specs.declared.told.OutLine.{OutLine}
+use Rattle.yt_serial.specs.declared.trace.Message.{Message}
+use Rattle.yt_serial.specs.declared.shown.OutLine.{OutLine}
 use Rattle.yt_log.specs.Ticks.{Ticks}
-use Rattle.yt_run.specs.Told.{IsPromisedRun}
+use Rattle.yt_serial.specs.Told.{IsPromisedRun}
 use Rattle.yt_run.specs.RunText.{run_text, read_back}
 use Rattle.yt_run.specs.First.{the_period}
 use Rattle.yartos.specs.Plain.{IsRunSoFar}

@@ -2,7 +2,7 @@
 use Rattle.std.specs.Prelude.{◌≡◌, ℕ, suc, ◌+◌, ◌≤◌, nat_lt, List, [], ◌∷◌, ◌++◌, length, Option, Some, None, ℤ, FitsSigned, codes, if◌then◌else◌}
 use Rattle.std.specs.Int.{w64}
 use Rattle.std.specs.Fmt.{decimal, signed_decimal}
-use Rattle.yt_run.specs.declared.trace.Message.{Message}
+use Rattle.yt_serial.specs.declared.trace.Message.{Message}
 use Rattle.yartos.specs.declared.trace.fault.TraceFault.{TraceFault}
 use Rattle.yartos.specs.declared.trace.fault.TraceFault.TheVariants.{Order, Soon}
 

@@ -7,7 +7,8 @@ use crate::text::Text;
 use std::alloc::{AllocError, Global};
 use yt_graph::Graph;
 use yt_log::Segment;
-use yt_run::{OutLine, Told};
+use yt_run::Told;
+use yt_serial::OutLine;
 
 /// The text of a run: its segments at their ends and its output lines at their times, a segment before the lines of its
 /// end, and then its end. `Err` comes where memory ran out.
@@ -122,7 +123,7 @@ mod tests {
     use yt_graph::{Feed, Inputs, OutHeads, Output, Outputs, Port, Ports, Vars};
     use yt_list::{Name, Names, Vals};
     use yt_log::{Job, Log};
-    use yt_run::Outs;
+    use yt_serial::Outs;
 
     fn name(alloc: Global, bytes: &[u8]) -> Result<Name, AllocError> {
         Ok(Name::from_vec(Vec::from_slice(alloc, bytes)?))

@@ -1,7 +1,7 @@
 //! Reads the text of a trace of one input.
 ghost use Rattle.std.specs.Prelude.{◌≡◌, ◌≢◌, ℕ, ℤ, List, ◌≤◌, FitsSigned, IfOk, IsTrue, MatchOption, ◌==◌, position};
 ghost use Rattle.std.specs.Int.{w64};
-ghost use Rattle.yt_run.specs.declared.trace.Message.{Message};
+ghost use Rattle.yt_serial.specs.declared.trace.Message.{Message};
 ghost use Rattle.yt_graph.specs.Names.{is_name};
 ghost use Rattle.yartos.specs.Split.{IsSplit, lacks};
 ghost use Rattle.yartos.specs.TraceText.{IsTraceText, message_line, one_number};
@@ -13,7 +13,7 @@ pub use fault::{TraceFault, first_fault};
 use numbers::{number, signed_number};
 use std::alloc::{AllocError, Global};
 use yt_list::Items;
-use yt_run::{Message, Trace};
+use yt_serial::{Message, Trace};
 
 /// How many messages a trace has at most.
 const MOST_MESSAGES: usize = 200_000;

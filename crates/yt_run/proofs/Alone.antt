@@ -6,10 +6,10 @@ use Rattle.yt_log.specs.Plan.{its_task, deadline_of, jobs_of, IsLegalAfter, IsLe
 use Rattle.yt_log.specs.Tasks.{Has, task_of}
 use Rattle.yt_log.specs.Ticks.{Ticks, Misses}
 use Rattle.yt_run.specs.Alone.{one_task, nth_job, TimesAreApartFrom, TimesAreApart, RunsAlone, items_from, alone_from}
-use Rattle.yt_run.specs.Beginnings.{begun_below, order_of}
+use Rattle.yt_serial.specs.Beginnings.{begun_below, order_of}
 use Rattle.yt_run.proofs.AloneTicks.{RunFrom, one_from, alone_runs_from, alone_at_once}
 use Rattle.yt_run.proofs.AtOnce.{RunsAtOnce, done_at_once, done_in_time, ends_within, at_once_lawful, at_once_work_conserving, at_once_exclusive, at_once_edf_ddm, at_once_finished, at_once_first_tick}
-use Rattle.yt_run.proofs.Done.{done_within, begun_fresh, begun_again, begun_idle, begun_stays}
+use Rattle.yt_serial.proofs.Lemmas.{done_within, begun_fresh, begun_again, begun_idle, begun_stays}
 
 -- the only task's period and cost
 one_task_period : (cost period : ℕ) (item : PlanItem) → item.job.task ≡ 1 → (its_task (one_task cost period) item).period ≡ period

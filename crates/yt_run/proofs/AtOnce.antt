@@ -9,8 +9,8 @@ use Rattle.yt_log.specs.Tasks.{Has}
 use Rattle.yt_log.specs.Ticks.{Ticks, tick, done, first_tick, IsWaiting, IsLawful, IsWorkConserving, IsActive, IsExclusive}
 use Rattle.yt_log.proofs.Choices.{below_end, waits_true, waits_from}
 use Rattle.yt_log.proofs.Ticks.{done-zero, done_yes, done_no}
-use Rattle.yt_run.specs.Beginnings.{busy_until}
-use Rattle.yt_run.proofs.Done.{first_tick_at, busy_until_le}
+use Rattle.yt_serial.specs.Beginnings.{busy_until}
+use Rattle.yt_serial.proofs.Lemmas.{first_tick_at, busy_until_le}
 
 -- the ticks in which an item runs where it runs from its arrival on
 pub record IsInRun (t : ℕ) (item : PlanItem) : Type 0 where

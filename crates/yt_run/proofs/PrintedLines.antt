@@ -13,10 +13,10 @@ use Rattle.yt_graph.specs.declared.graph.Output.{Output}
 use Rattle.yt_graph.specs.Picture.{GraphTree}
 use Rattle.yt_log.specs.declared.job.Job.{Job}
 use Rattle.yt_log.specs.declared.job.Segment.{Segment}
-use Rattle.yt_run.specs.declared.told.OutLine.{OutLine}
+use Rattle.yt_serial.specs.declared.shown.OutLine.{OutLine}
 use Rattle.yt_run.specs.Readable.{is_not, stays_in_word, HasReadableNames}
 use Rattle.yt_run.specs.RunText.{label_of, port_label, no_output, output_name, segment_line, spaced_values, out_line, end_line, parts_between, number_in, values_in, read_segment, read_out, read_end, line_fields}
-use Rattle.yt_run.specs.SerialHandling.{no_port}
+use Rattle.yt_serial.specs.SerialHandling.{no_port}
 use Rattle.yt_run.proofs.Pieces.{parts_between-piece, parts_between-last, without_space, without_feed, decimal-stays_in_word, signed_decimal-stays_in_word}
 use Rattle.yt_run.proofs.PrintedNames.{number_in-name, name-stays_in_word}
 

@@ -9,7 +9,7 @@ use Rattle.yt_graph.specs.Picture.{GraphTree}
 use Rattle.yt_log.specs.declared.job.Segment.{Segment}
 use Rattle.yt_log.specs.Segments.{segments_of, ticks_of}
 use Rattle.yt_log.specs.Ticks.{Ticks}
-use Rattle.yt_run.specs.declared.told.OutLine.{OutLine}
+use Rattle.yt_serial.specs.declared.shown.OutLine.{OutLine}
 use Rattle.yt_run.specs.Readable.{HasReadableNames}
 use Rattle.yt_run.specs.RunText.{ReadBack, segment_line, out_line, out_lines, end_line, around_segment, told_text, run_text, output_name, read_segment, read_out, read_end, line_fields, first_or_zero, read_back}
 use Rattle.yt_run.proofs.PrintedLines.{IsReadableJob, IsReadableSegment, IsReadableLine, segment_fields, out_fields, end_fields, line_fields-segment_line, line_fields-out_line, line_fields-end_line, read_segment-segment_fields, read_out-out_fields, read_end-end_fields}

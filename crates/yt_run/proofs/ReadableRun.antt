@@ -13,8 +13,8 @@ use Rattle.yt_log.specs.Segments.{segments_of}
 use Rattle.yt_log.specs.Tasks.{Has}
 use Rattle.yt_log.specs.Ticks.{Ticks, IsLawful}
 use Rattle.yt_log.proofs.SegmentLemmas.{ticks_of-segments_of}
-use Rattle.yt_run.specs.declared.told.OutLine.{OutLine}
-use Rattle.yt_run.specs.declared.trace.Message.{Message}
+use Rattle.yt_serial.specs.declared.shown.OutLine.{OutLine}
+use Rattle.yt_serial.specs.declared.trace.Message.{Message}
 use Rattle.yt_run.specs.Alone.{alone_from, items_from, nth_job}
 use Rattle.yt_run.specs.First.{the_port, the_period, IsFirstGraph, FitsFirst, KeepsPeriod, line_with}
 use Rattle.yt_run.specs.Readable.{HasReadableNames}

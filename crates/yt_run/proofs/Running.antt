@@ -15,17 +15,17 @@ use Rattle.yt_log.specs.Tasks.{Has}
 use Rattle.yt_log.specs.Ticks.{Ticks, done, IsLawful, IsWorkConserving, IsExclusive, KeepsDeadlines}
 use Rattle.yt_log.proofs.Appends.{jobs_none}
 use Rattle.yt_rates.specs.Tables.{tasks_of}
-use Rattle.yt_run.specs.declared.told.OutLine.{OutLine}
-use Rattle.yt_run.specs.declared.trace.Message.{Message}
+use Rattle.yt_serial.specs.declared.shown.OutLine.{OutLine}
+use Rattle.yt_serial.specs.declared.trace.Message.{Message}
 use Rattle.yt_run.specs.Alone.{TimesAreApart, TimesAreApartFrom, alone_from, items_from, nth_job, one_task, RunsAlone}
-use Rattle.yt_run.specs.Beginnings.{order_of}
+use Rattle.yt_serial.specs.Beginnings.{order_of}
 use Rattle.yt_run.specs.First.{First, the_port, the_period, IsFirstGraph, IsSent, FitsFirst, KeepsPeriod, AreFirstMessages, AreSpaced, graph_of, port_of, leaf, sum_after, line_with}
-use Rattle.yt_run.specs.PortMessages.{PortMessage}
-use Rattle.yt_run.specs.SerialHandling.{Handled, Serial, messages_at, handled_of, start, serial_run, plan_of, handled_along, plan_of_log}
-use Rattle.yt_run.specs.Told.{line_before, latest, AllHandled, BeginsInOrder, NoneReplaced, IsPromisedRun}
+use Rattle.yt_serial.specs.PortMessages.{PortMessage}
+use Rattle.yt_serial.specs.SerialHandling.{Handled, Serial, messages_at, handled_of, start, serial_run, plan_of, handled_along, plan_of_log}
+use Rattle.yt_serial.specs.Told.{line_before, latest, AllHandled, BeginsInOrder, NoneReplaced, IsPromisedRun}
 use Rattle.yt_run.proofs.Alone.{jobs_of-one, alone_holds}
 use Rattle.yt_run.proofs.AloneTicks.{alone_step, alone_step_long}
-use Rattle.yt_run.proofs.Done.{length_is_end}
+use Rattle.yt_serial.proofs.Lemmas.{length_is_end}
 use Rattle.yt_run.proofs.FirstLemmas.{sent_is_one}
 use Rattle.yt_run.proofs.SerialLemmas.{times_of, lines_of, cost_of, jobs_from, at_port, handled_from, items_handled, come, handles_all, messages_are_all}
 use Rattle.yt_run.proofs.Sorted.{sort_by-in_order, items_in_order, lines_in_order}

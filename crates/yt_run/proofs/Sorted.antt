@@ -4,10 +4,10 @@ use Rattle.std.proofs.lemmas.Bool.{cond-false}
 use Rattle.std.proofs.lemmas.Bool.Decides.{nat_tests}
 use Rattle.yt_log.specs.Order.{insert_by, sort_by}
 use Rattle.yt_log.specs.Patterns.{item_before}
-use Rattle.yt_run.specs.declared.trace.Message.{Message}
+use Rattle.yt_serial.specs.declared.trace.Message.{Message}
 use Rattle.yt_run.specs.Alone.{TimesAreApartFrom, TimesAreApart, items_from}
 use Rattle.yt_run.specs.First.{First}
-use Rattle.yt_run.specs.Told.{line_before}
+use Rattle.yt_serial.specs.Told.{line_before}
 use Rattle.yt_run.proofs.SerialLemmas.{lines_of, times_of}
 
 -- the first of these, where there is one, doesn't stand before x

@@ -15,14 +15,14 @@ use Rattle.yt_log.specs.Segments.{with_run, with_tick, ends_in, segments_below, 
 use Rattle.yt_log.specs.Tasks.{task_of}
 use Rattle.yt_log.specs.Ticks.{Ticks, tick, names, done, first_tick}
 use Rattle.yt_rates.specs.Tables.{tasks_of}
-use Rattle.yt_run.specs.declared.told.OutLine.{OutLine}
-use Rattle.yt_run.specs.declared.trace.Message.{Message}
-use Rattle.yt_run.specs.Beginnings.{newcomer, begun_below, order_of, busy_until}
+use Rattle.yt_serial.specs.declared.shown.OutLine.{OutLine}
+use Rattle.yt_serial.specs.declared.trace.Message.{Message}
+use Rattle.yt_serial.specs.Beginnings.{newcomer, begun_below, order_of, busy_until}
 use Rattle.yt_run.specs.First.{the_message, the_number, the_port, graph_of}
-use Rattle.yt_run.specs.PortMessages.{PortMessage, numbered}
+use Rattle.yt_serial.specs.PortMessages.{PortMessage, numbered}
 use Rattle.yt_run.specs.RunText.{run_text, read_back}
-use Rattle.yt_run.specs.SerialHandling.{Handled, Serial, handled_of, handled_along, plan_of_log}
-use Rattle.yt_run.specs.Told.{line_before, latest, IsPromisedRun}
+use Rattle.yt_serial.specs.SerialHandling.{Handled, Serial, handled_of, handled_along, plan_of_log}
+use Rattle.yt_serial.specs.Told.{line_before, latest, IsPromisedRun}
 
 abbrev blink : GraphTree
 blink = graph_of (record {

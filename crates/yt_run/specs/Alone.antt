@@ -7,7 +7,7 @@ use Rattle.yt_log.specs.EdfDdm.{IsEdfDdm}
 use Rattle.yt_log.specs.Plan.{IsLegal}
 use Rattle.yt_log.specs.Tasks.{Has}
 use Rattle.yt_log.specs.Ticks.{Ticks, done, first_tick, IsLawful, IsWorkConserving, IsExclusive, KeepsDeadlines}
-use Rattle.yt_run.specs.Beginnings.{order_of}
+use Rattle.yt_serial.specs.Beginnings.{order_of}
 
 -- the set of one task under no resource
 abbrev pub one_task : ℕ → ℕ → List Task

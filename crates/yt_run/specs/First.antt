@@ -6,9 +6,9 @@ use Rattle.yt_graph.specs.Cost.{greatest_cost}
 use Rattle.yt_graph.specs.Meaning.{expr_value}
 use Rattle.yt_graph.specs.Picture.{ExprTree, num, local, two, no_exprs, more_exprs, send, empty, more, GraphTree, PortTree}
 use Rattle.yt_rates.specs.Rates.{period_of}
-use Rattle.yt_run.specs.declared.told.OutLine.{OutLine}
-use Rattle.yt_run.specs.declared.trace.Message.{Message}
-use Rattle.yt_run.specs.SerialHandling.{no_port}
+use Rattle.yt_serial.specs.declared.shown.OutLine.{OutLine}
+use Rattle.yt_serial.specs.declared.trace.Message.{Message}
+use Rattle.yt_serial.specs.SerialHandling.{no_port}
 
 -- what a sum adds: the message's number, or a number that is written
 pub data Operand : Type 0 where

@@ -1,10 +1,4 @@
 pub mod Alone
-pub mod Beginnings
 pub mod First
-pub mod Laws
-pub mod PortMessages
 pub mod Readable
 pub mod RunText
-pub mod SerialHandling
-pub mod Told
-pub mod Traces

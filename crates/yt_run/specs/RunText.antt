@@ -8,8 +8,8 @@ use Rattle.yt_graph.specs.Picture.{GraphTree, PortTree}
 use Rattle.yt_log.specs.declared.job.Segment.{Segment}
 use Rattle.yt_log.specs.Segments.{segments_of, ticks_of}
 use Rattle.yt_log.specs.Ticks.{Ticks}
-use Rattle.yt_run.specs.declared.told.OutLine.{OutLine}
-use Rattle.yt_run.specs.SerialHandling.{no_port}
+use Rattle.yt_serial.specs.declared.shown.OutLine.{OutLine}
+use Rattle.yt_serial.specs.SerialHandling.{no_port}
 
 -- a port's name in a text: its process's, a dot, and its own
 abbrev pub label_of : PortTree → List ℕ

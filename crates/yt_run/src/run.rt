@@ -5,15 +5,15 @@ ghost use Rattle.yt_graph.specs.Picture.{expr_tree, graph_tree};
 ghost use Rattle.yt_run.specs.First.{FitsFirst, IsFirstGraph, IsSum, KeepsPeriod, line_with};
 ghost use Rattle.yt_run.specs.Readable.{HasReadableNames};
 ghost use Rattle.yt_run.specs.RunText.{read_back, run_text};
-ghost use Rattle.yt_run.specs.Told.{IsPromisedRun};
+ghost use Rattle.yt_serial.specs.Told.{IsPromisedRun};
 
 use crate::first::{first_cost, first_period, first_port, sent_sum, sum_value};
-use crate::told::{OutLine, Outs, Told};
-use crate::trace::{Message, Trace};
+use crate::told::Told;
 use std::alloc::{AllocError, Global};
 use yt_graph::{Expr, Graph};
 use yt_list::Vals;
 use yt_log::{Job, Log};
+use yt_serial::{Message, OutLine, Outs, Trace};
 
 /// Runs a graph of one input, one port and one output on a trace that keeps the input's period. Each message is handled
 /// from its time on, and what it makes the handler send is shown a period later. `Err` comes where memory ran out.

@@ -2,7 +2,7 @@
 ghost use Rattle.std.specs.Prelude.{◌≡◌, ◌≤◌, ◌<◌, ◌+◌, ◌^◌, All, length};
 ghost use Rattle.yartos.specs.TraceText.{fault_in, fault_of};
 
-use yt_run::Message;
+use yt_serial::Message;
 
 /// How a line of a trace breaks the period of the input. Lines are numbered from 1.
 #[derive(Clone, Copy, Debug, PartialEq, Eq)]

@@ -1,5 +1,0 @@
-use Rattle.yt_run.proofs.SerialLaws.{log_plans_are_legal}
-use Rattle.yt_run.proofs.laws.log_plans_are_legal.Goals as goal
-
-pub returns : goal.returns
-returns c = log_plans_are_legal

@@ -1,5 +1,0 @@
-use Rattle.yt_run.proofs.SerialLaws.{messages_are_apart}
-use Rattle.yt_run.proofs.laws.messages_are_apart.Goals as goal
-
-pub returns : goal.returns
-returns c = messages_are_apart

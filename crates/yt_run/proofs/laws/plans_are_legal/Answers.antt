@@ -1,5 +1,0 @@
-use Rattle.yt_run.proofs.SerialLaws.{plans_are_legal}
-use Rattle.yt_run.proofs.laws.plans_are_legal.Goals as goal
-
-pub returns : goal.returns
-returns c = plans_are_legal

@@ -1,0 +1,37 @@
+-- What is proved of serial handling.
+use Rattle.std.specs.Prelude.{◌≡◌, ℕ, List, All, Some}
+use Rattle.std.specs.Option.{ForSome}
+use Rattle.yt_graph.specs.Picture.{GraphTree}
+use Rattle.yt_graph.specs.WellFormed.{IsWellFormed}
+use Rattle.yt_log.specs.declared.job.Job.{Job}
+use Rattle.yt_log.specs.Plan.{IsLegal}
+use Rattle.yt_log.specs.Ticks.{Ticks}
+use Rattle.yt_rates.specs.Faults.{IsWithinRates}
+use Rattle.yt_rates.specs.Rates.{period_of}
+use Rattle.yt_rates.specs.Tables.{tasks_of}
+use Rattle.yt_serial.specs.declared.trace.Message.{Message}
+use Rattle.yt_serial.specs.PortMessages.{numbered, AreApart}
+use Rattle.yt_serial.specs.SerialHandling.{Serial, messages_at, start, serial_run, plan_of, plan_of_log}
+use Rattle.yt_serial.specs.Traces.{KeepsPeriods}
+
+-- serial handling comes this far on a trace that keeps the graph's periods, where the graph is well formed and its rates are within their limits
+pub record IsHandling (g : GraphTree) (trace : List Message) (order : List Job) (s : Serial) : Type 0 where
+  pub well_formed : IsWellFormed g
+  pub rates : All (IsWithinRates g) g.ports
+  pub keeps : KeepsPeriods g trace
+  pub along : serial_run g order (start g trace) ≡ Some s
+
+-- along each order on which it is defined, serial handling makes a legal plan for the graph's tasks
+abbrev pub PlansAreLegal : Type 0
+PlansAreLegal = (g : GraphTree) (trace : List Message) (order : List Job) (s : Serial) → IsHandling g trace order s → IsLegal (tasks_of g) (plan_of s)
+
+-- so the plan of each log is legal
+abbrev pub LogPlansAreLegal : Type 0
+LogPlansAreLegal =
+    (g : GraphTree) (trace : List Message) (log : Ticks) → IsWellFormed g → All (IsWithinRates g) g.ports → KeepsPeriods g trace → IsLegal (tasks_of g) (plan_of_log g trace log)
+
+-- and the messages at each port, handled or not, are at least its period apart
+abbrev pub MessagesAreApart : Type 0
+MessagesAreApart =
+    (g : GraphTree) (trace : List Message) (order : List Job) (s : Serial) → IsHandling g trace order s →
+    (port : ℕ) → ForSome (numbered g.ports port) (λ p. AreApart (period_of g p) (messages_at s port))

@@ -1,0 +1,18 @@
+//! Laws of the definitions.
+
+ghost use Rattle.yt_serial.specs.Laws.{LogPlansAreLegal, MessagesAreApart, PlansAreLegal};
+
+/// Along each order on which it is defined, serial handling makes a legal plan for the graph's tasks.
+pub fn plans_are_legal()
+    ensures { PlansAreLegal }
+{}
+
+/// The plan of each log is legal for the graph's tasks.
+pub fn log_plans_are_legal()
+    ensures { LogPlansAreLegal }
+{}
+
+/// In serial handling the messages at each port are at least its period apart.
+pub fn messages_are_apart()
+    ensures { MessagesAreApart }
+{}
