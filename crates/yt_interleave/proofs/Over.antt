@@ -1,0 +1,285 @@
+-- When all is over the log tells the run of serial handling; and at each moment the variables are what the ticks so far have written.
+use Rattle.std.proofs.Common.{◌≡◌, ◌⊎◌, ℕ, zero, suc, ◌+◌, ◌-◌, ◌<◌, ◌≤◌, true, false, eqb, List, [], ◌∷◌, ◌++◌, length, Option, None, Some, refl, sym, ap, subst, ◌∙◌, inl, inr, ⊎_elim, arith, append_assoc, append-nil, eq-eqb, ne_eqb}
+use Rattle.std.specs.Prelude.{ℤ}
+use Rattle.std.specs.Option.{option_map_or, option_and_then, unwrap_or}
+use Rattle.std.proofs.lemmas.Bool.{cases_eq, cases_Bool, cond-true, cond-false}
+use Rattle.std.proofs.lemmas.List.{length-append, get_or_past}
+use Rattle.std.proofs.lemmas.Option.{none-some, same_Some, option_and_then_some}
+use Rattle.yt_graph.specs.declared.handled.Write.{Write}
+use Rattle.yt_graph.specs.declared.port.Feed.{Feed}
+use Rattle.yt_graph.specs.declared.port.Feed.TheVariants.{Input, Out}
+use Rattle.yt_graph.specs.Meaning.{handling}
+use Rattle.yt_graph.specs.Picture.{GraphTree}
+use Rattle.yt_log.specs.declared.job.Job.{Job}
+use Rattle.yt_log.specs.declared.plan.PlanItem.{PlanItem}
+use Rattle.yt_log.specs.Order.{insert_by, sort_by}
+use Rattle.yt_log.specs.Patterns.{item_before}
+use Rattle.yt_log.specs.Tasks.{Has}
+use Rattle.yt_log.specs.Ticks.{Ticks, tick, done, first_tick}
+use Rattle.yt_log.proofs.Inserts.{insert_yes, insert_no}
+use Rattle.yt_log.proofs.Plans.{good_item}
+use Rattle.yt_log.proofs.Ticks.{done_grows, first_is, first_stays}
+use Rattle.yt_serial.specs.declared.trace.Message.{Message}
+use Rattle.yt_serial.specs.Beginnings.{newcomer, begun_below, order_of}
+use Rattle.yt_serial.specs.PortMessages.{PortMessage, numbered}
+use Rattle.yt_serial.specs.SerialHandling.{Handled, Serial, messages_at, items_of, start, port_of, serial_step, serial_run, plan_of, plan_of_log}
+use Rattle.yt_serial.specs.Told.{AllHandled, BeginsInOrder}
+use Rattle.yt_serial.proofs.Lemmas.{begun_below-append, plans_are_legal, feed_cases, port_there, numbered_apart, stepped}
+use Rattle.yt_rates.specs.Rates.{period_of}
+use Rattle.yt_rates.specs.Tables.{tasks_of}
+use Rattle.yt_interleave.specs.Handlers.{after_writes}
+use Rattle.yt_interleave.specs.Interleaved.{Begun, Moment, value_at, passed_by, on_way, item_of, writes_in, writes_below, job_of, IsInUse, StandsFor}
+use Rattle.yt_interleave.specs.Laws.{CanRun, IsSerialRun, EndsAreSerial, VariablesAreWritten, VariablesStay}
+use Rattle.yt_interleave.specs.Moves.{Interleaves, IsOver}
+use Rattle.yt_interleave.proofs.Begin.{serial}
+use Rattle.yt_interleave.proofs.Logs.{writes_below-suc, writes_below_more, writes_below_prefix, writes_in_idle}
+use Rattle.yt_interleave.proofs.Pieces.{placed_none}
+
+-- what is in a sorted list is in the list, and the other way round
+has_insert : (x : PlanItem) (ys : List PlanItem) (e : PlanItem) → Has (insert_by item_before x ys) e → (e ≡ x) ⊎ Has ys e
+has_insert x [] e h = h
+has_insert x (y ∷ ys) e h =
+    let P : List PlanItem → Type 0 = λ zs. Has zs e in
+    ⊎_elim
+    (λ (b : item_before y x ≡ true).
+    let k : (e ≡ y) ⊎ Has (insert_by item_before x ys) e = subst P (insert_yes x y ys b) h in
+    ⊎_elim
+    (λ (q : e ≡ y). inr (inl q))
+    (λ (l : Has (insert_by item_before x ys) e). ⊎_elim (λ (q : e ≡ x). inl q) (λ (m : Has ys e). inr (inr m)) (has_insert x ys e l))
+    k)
+    (λ (b : item_before y x ≡ false). subst P (insert_no x y ys b) h)
+    (cases_Bool (item_before y x))
+
+pub has_sorted : (xs : List PlanItem) (e : PlanItem) → Has (sort_by item_before xs) e → Has xs e
+has_sorted [] e h = h
+has_sorted (x ∷ xs) e h = ⊎_elim (λ (q : e ≡ x). inl q) (λ (k : Has (sort_by item_before xs) e). inr (has_sorted xs e k)) (has_insert x (sort_by item_before xs) e h)
+
+insert_has : (x : PlanItem) (ys : List PlanItem) (e : PlanItem) → (e ≡ x) ⊎ Has ys e → Has (insert_by item_before x ys) e
+insert_has x [] e h = h
+insert_has x (y ∷ ys) e h =
+    let P : List PlanItem → Type 0 = λ zs. Has zs e in
+    ⊎_elim
+    (λ (b : item_before y x ≡ true).
+    subst P (sym (insert_yes x y ys b))
+    (⊎_elim
+    (λ (q : e ≡ x). inr (insert_has x ys e (inl q)))
+    (λ (k : (e ≡ y) ⊎ Has ys e). ⊎_elim (λ (q : e ≡ y). inl q) (λ (l : Has ys e). inr (insert_has x ys e (inr l))) k)
+    h))
+    (λ (b : item_before y x ≡ false). subst P (sym (insert_no x y ys b)) h)
+    (cases_Bool (item_before y x))
+
+pub sorted_has : (xs : List PlanItem) (e : PlanItem) → Has xs e → Has (sort_by item_before xs) e
+sorted_has [] e h = h
+sorted_has (x ∷ xs) e h =
+    insert_has x (sort_by item_before xs) e (⊎_elim (λ (q : e ≡ x). inl q) (λ (k : Has xs e). inr (sorted_has xs e k)) h)
+
+pub on_way_none : (g : GraphTree) (active : ℕ → Option Begun) → ((port : ℕ) → active port ≡ None) → (f : Feed) → on_way g active f ≡ []
+on_way_none g active none f =
+    ⊎_elim
+    (λ (i : (input : ℕ) × (f ≡ Input input)). ap (on_way g active) i.1)
+    (λ (o : (source out : ℕ) × (f ≡ Out source out)). ap (on_way g active) o.2 ∙ ap (λ (b : Option Begun). passed_by g b o.1) (none o.0))
+    (feed_cases f)
+
+-- lists of one length with the same values
+pub same_values : (vs us : List ℤ) → length vs ≡ length us → ((v : ℕ) → value_at vs v ≡ value_at us v) → vs ≡ us
+same_values [] [] long same = refl
+same_values [] (u ∷ us) long same = absurd (omega arith)
+same_values (v ∷ vs) [] long same = absurd (omega arith)
+same_values (v ∷ vs) (u ∷ us) long same =
+    ap (λ (x : ℤ). x ∷ vs) (same 0) ∙ ap (λ (xs : List ℤ). u ∷ xs) (same_values vs us (omega arith) (λ n. same (suc n)))
+
+module _ (g : GraphTree) (trace : List Message) (can : CanRun g trace) (s : Serial) (r : Moment) (is : Interleaves g trace s r) where
+  abbrev stands : StandsFor g trace (order_of r.log) s r
+  stands = is.stands
+
+  plan_is : plan_of_log g trace r.log ≡ plan_of s
+  plan_is = ap (λ (o : Option Serial). option_map_or plan_of o []) stands.along
+
+  in_plan : (z : PlanItem) → Has (plan_of_log g trace r.log) z → Has (items_of s) z
+  in_plan z has = has_sorted (items_of s) z (subst (λ (is : List PlanItem). Has is z) plan_is has)
+
+  plan_has : (z : PlanItem) → Has (items_of s) z → Has (plan_of_log g trace r.log) z
+  plan_has z has = subst (λ (is : List PlanItem). Has is z) (sym plan_is) (sorted_has (items_of s) z has)
+
+  module _ (over : IsOver g s r) where
+    not_active : (z : PlanItem) → (b : Begun) × (r.active z.job.task ≡ Some b) × (z ≡ item_of g b) → ⊥
+    not_active z (b, at, e) = none-some b (sym (over.none z.job.task) ∙ at)
+
+    finished : (z : PlanItem) → Has (items_of s) z → done r.log z.job (length r.log) ≡ z.cost
+    finished z has =
+        ⊎_elim
+        (λ (a : (b : Begun) × (r.active z.job.task ≡ Some b) × (z ≡ item_of g b)). absurd (not_active z a))
+        (λ (e : done r.log z.job (length r.log) ≡ z.cost). e)
+        (stands.ended z has)
+
+    messages_same : s.messages ≡ r.messages
+    messages_same = stands.messages ∙ placed_none (on_way g r.active) (on_way_none g r.active over.none) g.ports r.messages stands.long
+
+    all_handled : AllHandled g s
+    all_handled port some most = over.all port some most ∙ ap (λ (ms : List (List PortMessage)). length (unwrap_or (numbered ms port) [])) (sym messages_same)
+
+    -- a later job of a port begins after an earlier one
+    in_turn : (x y : PlanItem) → Has (items_of s) x → Has (items_of s) y → 1 ≤ x.job.number → 0 < y.cost → x.job.task ≡ y.job.task → x.job.number < y.job.number
+        → first_tick r.log x.job (length r.log) < first_tick r.log y.job (length r.log)
+    in_turn x y has_x has_y some cost task lt =
+        let fin = finished y has_y in
+        let first = first_is r.log y.job (length r.log) (omega arith) in
+        let t = first_tick r.log y.job (length r.log) in
+        let turn : 0 < done r.log (job_of y.job.task x.job.number) t = stands.in_turn t y.job first.names x.job.number some lt in
+        let same : job_of y.job.task x.job.number ≡ x.job = ap (λ (n : ℕ). job_of n x.job.number) (sym task) in
+        let begun : 0 < done r.log x.job t = subst (λ (j : Job). 0 < done r.log j t) same turn in
+        let early = first_is r.log x.job t begun in
+        let below = first.below in
+        let stays = first_stays r.log x.job t (length r.log) begun (omega arith) in
+        let b = early.below in
+        omega arith
+
+    number_some : (ms : List PortMessage) (n : ℕ) (m : PortMessage) → numbered ms n ≡ Some m → 1 ≤ n
+    number_some ms zero m h = absurd (none-some m h)
+    number_some ms (suc n) m h = omega arith
+
+    cost_some : (z : PlanItem) → Has (items_of s) z → 1 ≤ z.cost
+    cost_some z has =
+        let legal = plans_are_legal g trace (order_of r.log) s (record { well_formed = can.well_formed; rates = can.rates; keeps = can.keeps; along = stands.along }) in
+        (good_item (tasks_of g) (plan_of s) legal z (sorted_has (items_of s) z has)).some
+
+    arrive_in_turn : (x y : PlanItem) → Has (items_of s) x → Has (items_of s) y → x.job.task ≡ y.job.task → x.job.number < y.job.number → x.arrival ≤ y.arrival
+    arrive_in_turn x y has_x has_y task lt =
+        let holds = serial g can.well_formed can.rates trace can.keeps (order_of r.log) s r stands in
+        let a = holds.items x has_x in
+        let b = holds.items y has_y in
+        let p = port_there g.ports s.messages y.job.task y.job.number b.message holds.long b.there in
+        let there : numbered (messages_at s y.job.task) x.job.number ≡ Some a.message = ap (λ (t : ℕ). numbered (messages_at s t) x.job.number) (sym task) ∙ a.there in
+        let apart = numbered_apart (period_of g p.0) (messages_at s y.job.task) (holds.spread y.job.task p.0 p.1) x.job.number y.job.number a.message b.message there b.there lt in
+        let e = a.arrival in
+        let f = b.arrival in
+        omega arith
+
+    in_order : BeginsInOrder (plan_of_log g trace r.log) r.log
+    in_order x y has_x has_y task lt =
+        let hx = in_plan x has_x in
+        let hy = in_plan y has_y in
+        let holds = serial g can.well_formed can.rates trace can.keeps (order_of r.log) s r stands in
+        let a = holds.items x hx in
+        (arrive_in_turn x y hx hy task lt, in_turn x y hx hy (number_some (messages_at s x.job.task) x.job.number a.message a.there) (cost_some y hy) task lt)
+
+    same_at : (v : ℕ) → value_at r.vars v ≡ value_at s.vars v
+    same_at v =
+        ⊎_elim
+        (λ (e : value_at r.vars v ≡ value_at s.vars v). e)
+        (λ (k : IsInUse g r.active v). absurd (not_used k))
+        (stands.others v)
+      where
+        not_used : IsInUse g r.active v → ⊥
+        not_used (p, b, at, uses) = none-some b (sym (over.none p) ∙ at)
+
+    pub told : IsSerialRun g trace s r
+    told = record {
+      along = stands.along;
+      all = all_handled;
+      lawful = λ t j at. let l = stands.lawful t j at in (l.0, plan_has l.0 l.1, l.2, l.3);
+      finished = λ z has. finished z (in_plan z has);
+      in_order = in_order;
+      vars = same_values r.vars s.vars stands.count same_at;
+    }
+
+pub ends_are_serial : EndsAreSerial
+ends_are_serial g trace can s r is over = told g trace can s r is over
+
+-- the jobs that begin after a tick have none before it
+newcomers : (log : Ticks) (n t : ℕ) (o : Option Job) → n ≤ t → (j : Job) → Has (newcomer log t o) j → done log j n ≡ 0
+unfolding newcomer
+newcomers log n t None le j h = absurd h
+newcomers log n t (Some k) le j h =
+    ⊎_elim
+    (λ (e : done log k t ≡ 0).
+    let has : Has (k ∷ []) j = subst (λ (xs : List Job). Has xs j) (cond-true {A = List Job} (eqb (done log k t) 0) (k ∷ []) [] (eq-eqb (done log k t) 0 e)) h in
+    ⊎_elim
+    (λ (q : j ≡ k).
+    let z : done log j t ≡ 0 = ap (λ (x : Job). done log x t) q ∙ e in
+    let g = done_grows log j n t le in
+    omega arith)
+    (λ (q : ⊥). absurd q)
+    has)
+    (λ (ne : done log k t ≡ 0 → ⊥).
+    absurd (subst (λ (xs : List Job). Has xs j) (cond-false {A = List Job} (eqb (done log k t) 0) (k ∷ []) [] (ne_eqb (done log k t) 0 ne)) h))
+    (cases_eq (done log k t) 0)
+
+pub begun-suc : (log : Ticks) (t : ℕ) → begun_below log (suc t) ≡ begun_below log t ++ newcomer log t (tick log t)
+unfolding begun_below
+begun-suc log t = refl
+
+pub has_append : (xs ys : List Job) (j : Job) → Has (xs ++ ys) j → Has xs j ⊎ Has ys j
+has_append [] ys j h = inr h
+has_append (x ∷ xs) ys j h =
+    ⊎_elim
+    (λ (e : j ≡ x). inl (inl e))
+    (λ (k : Has (xs ++ ys) j). ⊎_elim (λ (l : Has xs j). inl (inr l)) (λ (l : Has ys j). inr l) (has_append xs ys j k))
+    h
+
+-- the order of beginning goes on with jobs that had no tick before
+pub record GoesOn (log : Ticks) (n t : ℕ) : Type 0 where
+  pub later : List Job
+  pub order : begun_below log t ≡ begun_below log n ++ later
+  pub none : (j : Job) → Has later j → done log j n ≡ 0
+
+pub goes_on : (log : Ticks) (n k : ℕ) → GoesOn log n (n + k)
+goes_on log n zero = record { later = []; order = ap (begun_below log) (omega arith) ∙ sym (append-nil (begun_below log n)); none = λ j h. absurd h }
+goes_on log n (suc k) =
+    let before = goes_on log n k in
+    let new = newcomer log (n + k) (tick log (n + k)) in
+    record {
+      later = before.later ++ new;
+      order = ap (begun_below log) (omega arith) ∙ begun-suc log (n + k) ∙ ap (λ (xs : List Job). xs ++ new) before.order ∙ append_assoc (begun_below log n) before.later new;
+      none = λ j h. ⊎_elim (λ (l : Has before.later j). before.none j l) (λ (l : Has new j). newcomers log n (n + k) (tick log (n + k)) (omega arith) j l) (has_append before.later new j h);
+    }
+
+-- serial handling along an order goes through each of its parts
+run_rest : (g : GraphTree) (xs ys : List Job) (a s t : Serial) → serial_run g xs a ≡ Some s → serial_run g (xs ++ ys) a ≡ Some t → serial_run g ys s ≡ Some t
+run_rest g [] ys a s t h k = subst (λ (x : Serial). serial_run g ys x ≡ Some t) (same_Some a s h) k
+run_rest g (j ∷ xs) ys a s t h k =
+    option_and_then_some {P = serial_run g ys s ≡ Some t} (serial_run g xs) (serial_step g j a) s h
+    (λ x step rest. run_rest g xs ys x s t rest (sym (ap (option_and_then (serial_run g (xs ++ ys))) step) ∙ k))
+
+-- the writes below a tick are those of the jobs that have begun there
+writes_stay : (g : GraphTree) (log : Ticks) (n : ℕ) (xs : List Job) (s t : Serial) → serial_run g xs s ≡ Some t → ((j : Job) → Has xs j → done log j n ≡ 0)
+    → writes_below t.handled log n ≡ writes_below s.handled log n
+writes_stay g log n [] s t h none = ap (λ (x : Serial). writes_below x.handled log n) (sym (same_Some s t h))
+writes_stay g log n (j ∷ xs) s t h none =
+    option_and_then_some {P = writes_below t.handled log n ≡ writes_below s.handled log n} (serial_run g xs) (serial_step g j s) t h
+    (λ x step rest.
+    let m = stepped g j s x step in
+    let new : Handled = record { item = record { job = j; arrival = m.0.time; cost = (handling (port_of g j) m.0.values s.vars).ticks }; writes = (handling (port_of g j) m.0.values s.vars).writes } in
+    writes_stay g log n xs x t rest (λ k has. none k (inr has))
+    ∙ ap (λ (y : Serial). writes_below y.handled log n) (sym m.2)
+    ∙ writes_below_more s.handled new log n (none j (inl refl)))
+
+pub variables_are_written : VariablesAreWritten
+variables_are_written g trace can s r is more whole along =
+    let log = r.log ++ more in
+    let n = length r.log in
+    let long : length log ≡ n + length more = length-append r.log more in
+    let go = goes_on log n (length more) in
+    let order : order_of log ≡ order_of r.log ++ go.later = ap (begun_below log) long ∙ go.order ∙ ap (λ (xs : List Job). xs ++ go.later) (begun_below-append r.log more n (omega arith)) in
+    let rest = run_rest g (order_of r.log) go.later (start g trace) s whole is.stands.along (ap (λ (o : List Job). serial_run g o (start g trace)) (sym order) ∙ along) in
+    ap (λ (ws : List Write). after_writes ws (start g trace).vars)
+    (writes_stay g log n go.later s whole rest go.none ∙ writes_below_prefix s.handled r.log more n (omega arith))
+    ∙ sym is.stands.written
+
+none_past : (log : Ticks) (t : ℕ) → length log ≤ t → tick log t ≡ None
+unfolding tick
+none_past log t le = get_or_past log t None le
+
+writes_past : (handled : List Handled) (log : Ticks) (n : ℕ) → writes_below handled log (length log + n) ≡ writes_below handled log (length log)
+writes_past handled log zero = ap (writes_below handled log) (omega arith)
+writes_past handled log (suc n) =
+    ap (writes_below handled log) (omega arith)
+    ∙ writes_below-suc handled log (length log + n)
+    ∙ ap (λ (ws : List Write). writes_below handled log (length log + n) ++ ws) (ap (writes_in handled log (length log + n)) (none_past log (length log + n) (omega arith)) ∙ writes_in_idle handled log (length log + n))
+    ∙ append-nil (writes_below handled log (length log + n))
+    ∙ writes_past handled log n
+
+pub variables_stay : VariablesStay
+variables_stay vars handled log t le =
+    let e : t ≡ length log + (t - length log) = omega arith in
+    ap (λ (ws : List Write). after_writes ws vars) (ap (writes_below handled log) e ∙ writes_past handled log (t - length log))

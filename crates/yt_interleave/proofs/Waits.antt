@@ -1,0 +1,260 @@
+-- How the messages that wait for their time change.
+use Rattle.std.proofs.Common.{◌≡◌, ℕ, zero, suc, ◌+◌, ◌%◌, ◌<◌, ◌≤◌, cond, eqb, leb, List, [], ◌∷◌, ◌++◌, length, slice_get, get_or, Option, None, Some, refl, sym, ap, subst, ◌∙◌, inl, inr, ⊎_elim, arith, append-nil, eq-eqb, ne_eqb, ◌-◌, ◌*◌, All}
+use Rattle.std.specs.Option.{option_map, unwrap_or}
+use Rattle.std.proofs.lemmas.Bool.{cases_eq, cases_lt, cond-true, cond-false, le-leb, lt-leb}
+use Rattle.std.proofs.lemmas.List.{length-map}
+use Rattle.std.proofs.lemmas.Nat.{mul-le}
+use Rattle.std.proofs.Math.Nat.{mod-add-div}
+use Rattle.std.proofs.lemmas.Option.{none-some, same_Some, option_and_then_some, slice_get-map, slice_get-get_or, slice_get_past, get_or_from_slice_get, slice_get_within}
+use Rattle.yt_graph.specs.declared.graph.Output.{Output}
+use Rattle.yt_graph.specs.declared.handled.SendItem.{SendItem}
+use Rattle.yt_graph.specs.declared.port.Feed.{Feed}
+use Rattle.yt_graph.specs.declared.port.Feed.TheVariants.{Input, Out}
+use Rattle.yt_graph.specs.Meaning.{handling}
+use Rattle.yt_graph.specs.Cost.{greatest_sends}
+use Rattle.yt_rates.specs.Faults.{IsWithinRates}
+use Rattle.yt_serial.proofs.Lemmas.{next_multiple, numbered_far, Holds, placed_at, stepped, holds_stepped, serial_holds}
+use Rattle.yt_graph.specs.Picture.{GraphTree, PortTree}
+use Rattle.yt_log.specs.declared.job.Job.{Job}
+use Rattle.yt_log.specs.Tasks.{Has}
+use Rattle.yt_code.specs.Outbox.{messages_on}
+use Rattle.yt_rates.specs.Rates.{every_of, period_of, gap_of}
+use Rattle.yt_serial.specs.declared.shown.OutLine.{OutLine}
+use Rattle.yt_serial.specs.declared.trace.Message.{Message}
+use Rattle.yt_serial.specs.Beginnings.{order_of}
+use Rattle.yt_serial.specs.PortMessages.{PortMessage, numbered, messages_of, spaced, passed}
+use Rattle.yt_serial.specs.SerialHandling.{Serial, messages_at, brought, from_outside, shown, start, port_of, serial_step, serial_run}
+use Rattle.yt_interleave.specs.Interleaved.{Begun, Moment, port_at, known_at, passes_of, on_way, output_feeds, with_end}
+use Rattle.yt_interleave.specs.Laws.{CanRun}
+use Rattle.yt_interleave.specs.Lines.{messages_to, come_at}
+use Rattle.yt_interleave.specs.Moves.{Interleaves}
+use Rattle.yt_interleave.specs.Waits.{wait_from, timed, MessagesWait}
+use Rattle.yt_interleave.proofs.Pieces.{added_at}
+use Rattle.yt_interleave.proofs.SerialLines.{lines_hold}
+use Rattle.yt_interleave.proofs.Shown.{known_rise}
+use Rattle.yt_interleave.proofs.Sorting.{TimesRise}
+use Rattle.yt_interleave.proofs.Timing as timing
+use Rattle.yt_interleave.proofs.Timing.{passes_late, period_some}
+
+-- what is spaced out is what was sent on the out
+spaced_timed : (out time gap : ℕ) (sends : List SendItem) → spaced out time gap sends ≡ timed time gap (messages_on out sends)
+spaced_timed out time gap [] = refl
+spaced_timed out time gap (s ∷ sends) =
+    ⊎_elim
+    (λ (e : out ≡ s.out).
+    cond-true (eqb out s.out) ((record { time = time; values = s.values }) ∷ spaced out (time + gap) gap sends) (spaced out time gap sends) (eq-eqb out s.out e)
+    ∙ ap (λ (ms : List PortMessage). (record { time = time; values = s.values }) ∷ ms) (spaced_timed out (time + gap) gap sends)
+    ∙ sym (ap (timed time gap) (cond-true (eqb s.out out) (s.values ∷ messages_on out sends) (messages_on out sends) (eq-eqb s.out out (sym e)))))
+    (λ (ne : out ≡ s.out → ⊥).
+    cond-false (eqb out s.out) ((record { time = time; values = s.values }) ∷ spaced out (time + gap) gap sends) (spaced out time gap sends) (ne_eqb out s.out ne)
+    ∙ spaced_timed out time gap sends
+    ∙ sym (ap (timed time gap) (cond-false (eqb s.out out) (s.values ∷ messages_on out sends) (messages_on out sends) (ne_eqb s.out out (λ e. ne (sym e))))))
+    (cases_eq out s.out)
+
+wait_yes : (t : ℕ) (m : PortMessage) (ms : List PortMessage) → t ≤ m.time → wait_from t (m ∷ ms) ≡ m ∷ wait_from t ms
+wait_yes t m ms le = cond-true (leb t m.time) (m ∷ wait_from t ms) (wait_from t ms) (le-leb t m.time le)
+
+wait_no : (t : ℕ) (m : PortMessage) (ms : List PortMessage) → m.time < t → wait_from t (m ∷ ms) ≡ wait_from t ms
+wait_no t m ms lt = cond-false (leb t m.time) (m ∷ wait_from t ms) (wait_from t ms) (lt-leb t m.time lt)
+
+wait_append : (t : ℕ) (xs ys : List PortMessage) → wait_from t (xs ++ ys) ≡ wait_from t xs ++ wait_from t ys
+wait_append t [] ys = refl
+wait_append t (x ∷ xs) ys =
+    ⊎_elim
+    (λ (lt : x.time < t). wait_no t x (xs ++ ys) lt ∙ wait_append t xs ys ∙ sym (ap (λ (zs : List PortMessage). zs ++ wait_from t ys) (wait_no t x xs lt)))
+    (λ (ge : t ≤ x.time).
+    wait_yes t x (xs ++ ys) ge ∙ ap (λ (zs : List PortMessage). x ∷ zs) (wait_append t xs ys) ∙ sym (ap (λ (zs : List PortMessage). zs ++ wait_from t ys) (wait_yes t x xs ge)))
+    (cases_lt x.time t)
+
+wait_all : (t : ℕ) (ms : List PortMessage) → ((k : ℕ) (x : PortMessage) → slice_get ms k ≡ Some x → t ≤ x.time) → wait_from t ms ≡ ms
+wait_all t [] late = refl
+wait_all t (m ∷ ms) late = wait_yes t m ms (late 0 m refl) ∙ ap (λ (zs : List PortMessage). m ∷ zs) (wait_all t ms (λ k x h. late (suc k) x h))
+
+come_yes : (t : ℕ) (m : PortMessage) (ms : List PortMessage) → m.time ≡ t → come_at t (m ∷ ms) ≡ m ∷ come_at t ms
+come_yes t m ms e = cond-true (eqb m.time t) (m ∷ come_at t ms) (come_at t ms) (eq-eqb m.time t e)
+
+come_no : (t : ℕ) (m : PortMessage) (ms : List PortMessage) → (m.time ≡ t → ⊥) → come_at t (m ∷ ms) ≡ come_at t ms
+come_no t m ms e = cond-false (eqb m.time t) (m ∷ come_at t ms) (come_at t ms) (ne_eqb m.time t e)
+
+come_none : (t n : ℕ) (ms : List PortMessage) → ((l : OutLine) → Has (shown n ms) l → t < l.time) → come_at t ms ≡ []
+come_none t n [] late = refl
+come_none t n (m ∷ ms) late =
+    come_no t m ms (λ e. let lt = late (record { time = m.time; output = n; values = m.values }) (inl refl) in absurd (omega arith))
+    ∙ come_none t n ms (λ l h. late l (inr h))
+
+-- where times rise, what comes at a tick stands before what comes later
+comes_first : (n t : ℕ) (ms : List PortMessage) → TimesRise (shown n ms) → wait_from t ms ≡ come_at t ms ++ wait_from (suc t) ms
+comes_first n t [] rise = refl
+comes_first n t (m ∷ ms) rise =
+    ⊎_elim
+    (λ (lt : m.time < t).
+    wait_no t m ms lt ∙ comes_first n t ms rise.1
+    ∙ sym (ap (λ (zs : List PortMessage). zs ++ wait_from (suc t) (m ∷ ms)) (come_no t m ms (λ e. absurd (omega arith))) ∙ ap (λ (zs : List PortMessage). come_at t ms ++ zs) (wait_no (suc t) m ms (omega arith))))
+    (λ (ge : t ≤ m.time).
+    ⊎_elim
+    (λ (e : m.time ≡ t).
+    wait_yes t m ms ge ∙ ap (λ (zs : List PortMessage). m ∷ zs) (comes_first n t ms rise.1)
+    ∙ sym (ap (λ (zs : List PortMessage). zs ++ wait_from (suc t) (m ∷ ms)) (come_yes t m ms e) ∙ ap (λ (zs : List PortMessage). m ∷ (come_at t ms ++ zs)) (wait_no (suc t) m ms (omega arith))))
+    (λ (ne : m.time ≡ t → ⊥).
+    let none : come_at t ms ≡ [] = come_none t n ms (λ l h. let le = rise.0 l h in omega arith) in
+    wait_yes t m ms ge ∙ ap (λ (zs : List PortMessage). m ∷ zs) (comes_first n t ms rise.1 ∙ ap (λ (zs : List PortMessage). zs ++ wait_from (suc t) ms) none)
+    ∙ sym (ap (λ (zs : List PortMessage). zs ++ wait_from (suc t) (m ∷ ms)) (come_no t m ms ne ∙ none) ∙ wait_yes (suc t) m ms (omega arith)))
+    (cases_eq m.time t))
+    (cases_lt m.time t)
+
+-- messages that are some ticks apart
+rise_apart : (n period : ℕ) (ms : List PortMessage) → ((i j : ℕ) (x y : PortMessage) → slice_get ms i ≡ Some x → slice_get ms j ≡ Some y → i < j → x.time + period ≤ y.time) → TimesRise (shown n ms)
+rise_apart n period [] apart = tt
+rise_apart n period (m ∷ ms) apart =
+    ((λ l h. let r = in_shown ms l h in let a = apart 0 (suc r.0) m r.1 refl r.2 (omega arith) in let t = r.3 in omega arith), rise_apart n period ms (λ i j x y a b lt. apart (suc i) (suc j) x y a b (omega arith)))
+  where
+    in_shown : (xs : List PortMessage) (l : OutLine) → Has (shown n xs) l → (i : ℕ) × (x : PortMessage) × (slice_get xs i ≡ Some x) × (l.time ≡ x.time)
+    in_shown [] l h = absurd h
+    in_shown (x ∷ xs) l h =
+        ⊎_elim
+        (λ (e : l ≡ (record { time = x.time; output = n; values = x.values })). (0, x, refl, ap (λ (y : OutLine). y.time) e))
+        (λ (k : Has (shown n xs) l). let r = in_shown xs l k in (suc r.0, r.1, r.2, r.3))
+        h
+
+one_apart : (t period : ℕ) (ms : List PortMessage) → 1 ≤ period → ((i j : ℕ) (x y : PortMessage) → slice_get ms i ≡ Some x → slice_get ms j ≡ Some y → i < j → x.time + period ≤ y.time) → length (come_at t ms) ≤ 1
+one_apart t period [] some apart = omega arith
+one_apart t period (m ∷ ms) some apart =
+    let rest : (i j : ℕ) (x y : PortMessage) → slice_get ms i ≡ Some x → slice_get ms j ≡ Some y → i < j → x.time + period ≤ y.time = λ i j x y a b lt. apart (suc i) (suc j) x y a b (omega arith) in
+    ⊎_elim
+    (λ (e : m.time ≡ t).
+    let none : come_at t ms ≡ [] = later ms (λ k x h. let a = apart 0 (suc k) m x refl h (omega arith) in omega arith) in
+    let long : length (come_at t (m ∷ ms)) ≡ 1 = ap length (come_yes t m ms e ∙ ap (λ (zs : List PortMessage). m ∷ zs) none) in
+    omega arith)
+    (λ (ne : m.time ≡ t → ⊥).
+    let long : length (come_at t (m ∷ ms)) ≡ length (come_at t ms) = ap length (come_no t m ms ne) in
+    let h = one_apart t period ms some rest in
+    omega arith)
+    (cases_eq m.time t)
+  where
+    later : (xs : List PortMessage) → ((k : ℕ) (x : PortMessage) → slice_get xs k ≡ Some x → t < x.time) → come_at t xs ≡ []
+    later [] late = refl
+    later (x ∷ xs) late = come_no t x xs (λ e. let lt = late 0 x refl in absurd (omega arith)) ∙ later xs (λ k y h. late (suc k) y h)
+
+module _ (g : GraphTree) (trace : List Message) (can : CanRun g trace) where
+  -- what a port of an input has in serial handling
+  pub inputs_stay : (order : List Job) (s t : Serial) → Holds g s → serial_run g order s ≡ Some t → (k : ℕ) (p : PortTree) (i : ℕ) → slice_get g.ports k ≡ Some p → p.feed ≡ Input i → messages_at t (suc k) ≡ messages_at s (suc k)
+  inputs_stay [] s t holds along k p i is feed = ap (λ (x : Serial). messages_at x (suc k)) (sym (same_Some s t along))
+  inputs_stay (job ∷ order) s t holds along k p i is feed =
+      option_and_then_some {P = messages_at t (suc k) ≡ messages_at s (suc k)} (serial_run g order) (serial_step g job s) t along
+      (λ x step rest.
+      let m = stepped g job s x step in
+      let passes : ℕ → List PortMessage = passed g (port_of g job) job.number m.0.time (handling (port_of g job) m.0.values s.vars).sends in
+      inputs_stay order x t (holds_stepped g can.well_formed can.rates job s x holds step) rest k p i is feed
+      ∙ ap (λ (y : Serial). messages_at y (suc k)) (sym m.2)
+      ∙ placed_at (brought job.task passes) g.ports s.messages k p holds.long is
+      ∙ ap (λ (f : Feed). messages_at s (suc k) ++ brought job.task passes f) feed
+      ∙ append-nil (messages_at s (suc k)))
+
+  module _ (s : Serial) (r : Moment) (is : Interleaves g trace s r) where
+    input_at : (port : ℕ) (p : PortTree) (i : ℕ) → numbered g.ports port ≡ Some p → p.feed ≡ Input i → known_at r port ≡ messages_of i trace
+    input_at zero p i there feed = absurd (none-some p there)
+    input_at (suc k) p i there feed =
+        let known : messages_at s (suc k) ≡ known_at r (suc k) =
+        ap (λ (ms : List (List PortMessage)). unwrap_or (numbered ms (suc k)) []) is.stands.messages
+        ∙ placed_at (on_way g r.active) g.ports r.messages k p is.stands.long there
+        ∙ ap (λ (f : Feed). known_at r (suc k) ++ on_way g r.active f) feed ∙ append-nil (known_at r (suc k)) in
+        let first : messages_at (start g trace) (suc k) ≡ messages_of i trace =
+        ap (λ (o : Option (List PortMessage)). unwrap_or o []) (slice_get-map (λ (p : PortTree). from_outside trace p.feed) g.ports k ∙ ap (option_map (λ (p : PortTree). from_outside trace p.feed)) there)
+        ∙ ap (from_outside trace) feed in
+        sym known
+        ∙ inputs_stay (order_of r.log) (start g trace) s (serial_holds g can.well_formed can.rates trace can.keeps [] (start g trace) refl) is.stands.along k p i there feed
+        ∙ first
+
+    at_port : (b : Begun) (due : ℕ) → due ≤ b.message.time + period_of g (port_at g b.job.task) → (port : ℕ) (p : PortTree) → numbered g.ports port ≡ Some p
+        → wait_from due (known_at (with_end g b r) port) ≡ wait_from due (known_at r port) ++ brought b.job.task (passes_of g b) p.feed
+    at_port b due le zero p there = absurd (none-some p there)
+    at_port b due le (suc k) p there =
+        let new = brought b.job.task (passes_of g b) p.feed in
+        ap (wait_from due) (placed_at (brought b.job.task (passes_of g b)) g.ports r.messages k p is.stands.long there)
+        ∙ wait_append due (known_at r (suc k)) new
+        ∙ ap (λ (ms : List PortMessage). wait_from due (known_at r (suc k)) ++ ms) (wait_all due new (λ i x h. let late = passes_late g b p.feed i x h in omega arith))
+
+    at_output : (b : Begun) (due : ℕ) → due ≤ b.message.time + period_of g (port_at g b.job.task) → (n : ℕ) (o : Output) → numbered g.outputs n ≡ Some o
+        → wait_from due (messages_to (with_end g b r).outputs n) ≡ wait_from due (messages_to r.outputs n) ++ brought b.job.task (passes_of g b) (Out o.port o.out)
+    at_output b due le zero o there = absurd (none-some o there)
+    at_output b due le (suc k) o there =
+        let new = brought b.job.task (passes_of g b) (Out o.port o.out) in
+        let feeds = length-map g.outputs (λ (o : Output). Out o.port o.out) in
+        let feed : slice_get (output_feeds g) k ≡ Some (Out o.port o.out) = slice_get-map (λ (o : Output). Out o.port o.out) g.outputs k ∙ ap (option_map (λ (o : Output). Out o.port o.out)) there in
+        ap (wait_from due) (added_at (brought b.job.task (passes_of g b)) (output_feeds g) r.outputs k (Out o.port o.out) (is.lines.count ∙ sym feeds) feed)
+        ∙ wait_append due (messages_to r.outputs (suc k)) new
+        ∙ ap (λ (ms : List PortMessage). wait_from due (messages_to r.outputs (suc k)) ++ ms) (wait_all due new (λ i x h. let late = passes_late g b (Out o.port o.out) i x h in omega arith))
+
+    -- a port's known messages are its period apart
+    known_apart : (port : ℕ) (p : PortTree) → numbered g.ports port ≡ Some p → (i j : ℕ) (x y : PortMessage) → slice_get (known_at r port) i ≡ Some x → slice_get (known_at r port) j ≡ Some y → i < j → x.time + period_of g p ≤ y.time
+    known_apart port p there i j x y a b lt =
+        (timing.serial g trace can s r is).spread port p there i j x y
+        (timing.known_first g trace can s r is port (suc i) x a) (timing.known_first g trace can s r is port (suc j) y b) lt
+
+    no_messages : (port : ℕ) → numbered g.ports port ≡ None → known_at r port ≡ []
+    no_messages zero e = refl
+    no_messages (suc k) e =
+        ⊎_elim
+        (λ (lt : k < length r.messages).
+        let long = is.stands.long in
+        let p = slice_get-get_or g.ports k (port_at g 0) (omega arith) in
+        absurd (none-some (get_or g.ports k (port_at g 0)) (sym e ∙ p)))
+        (λ (ge : length r.messages ≤ k). ap (λ (o : Option (List PortMessage)). unwrap_or o []) (slice_get_past r.messages k ge))
+        (cases_lt k (length r.messages))
+
+    port_comes : (port t : ℕ) → wait_from t (known_at r port) ≡ come_at t (known_at r port) ++ wait_from (suc t) (known_at r port)
+    port_comes port t = by (numbered g.ports port) refl
+      where
+        by : (o : Option PortTree) → numbered g.ports port ≡ o → wait_from t (known_at r port) ≡ come_at t (known_at r port) ++ wait_from (suc t) (known_at r port)
+        by None e = subst (λ (ms : List PortMessage). wait_from t ms ≡ come_at t ms ++ wait_from (suc t) ms) (sym (no_messages port e)) refl
+        by (Some p) e = comes_first 0 t (known_at r port) (rise_apart 0 (period_of g p) (known_at r port) (known_apart port p e))
+
+    port_one : (port t : ℕ) → length (come_at t (known_at r port)) ≤ 1
+    port_one port t = by (numbered g.ports port) refl
+      where
+        by : (o : Option PortTree) → numbered g.ports port ≡ o → length (come_at t (known_at r port)) ≤ 1
+        by None e = subst (λ (ms : List PortMessage). length (come_at t ms) ≤ 1) (sym (no_messages port e)) (omega arith)
+        by (Some p) e = one_apart t (period_of g p) (known_at r port) (period_some g port p can.rates e) (known_apart port p e)
+
+    output_comes : (n t : ℕ) → wait_from t (messages_to r.outputs n) ≡ come_at t (messages_to r.outputs n) ++ wait_from (suc t) (messages_to r.outputs n)
+    output_comes n t =
+        comes_first n t (messages_to r.outputs n)
+        (known_rise g s r is.lines (lines_hold g can.well_formed can.rates trace can.keeps (order_of r.log) s is.stands.along) n)
+
+gap_some : (g : GraphTree) → All (IsWithinRates g) g.ports → (port out : ℕ) (p : PortTree) → numbered g.ports port ≡ Some p → 1 ≤ out → out ≤ length p.outs → 1 ≤ gap_of g p out
+gap_some g rates zero out p there some most = absurd (none-some p there)
+gap_some g rates (suc k) out p there some most =
+    let e : get_or g.ports k p ≡ p = get_or_from_slice_get g.ports k p p there in
+    (subst (IsWithinRates g) e (rates k p (slice_get_within g.ports k p there))).outs.gap out some most
+
+old_come : (g : GraphTree) (trace : List Message) → CanRun g trace → (s : Serial) (r : Moment) → Interleaves g trace s r
+    → (port n earlier last j : ℕ) (p : PortTree) (m first : PortMessage) (out : ℕ) → numbered g.ports port ≡ Some p
+    → numbered (messages_at s port) n ≡ Some m → numbered (messages_at s port) earlier ≡ Some first → 1 ≤ out → out ≤ length p.outs
+    → earlier % every_of p out ≡ 0 → last % every_of p out ≡ 0 → earlier < last → last < n → j < greatest_sends p out
+    → first.time + period_of g p + j * gap_of g p out < m.time
+old_come g trace can s r is port n earlier last j p m first out there at at_first some most pass pass_last lt lt2 few =
+    let every = every_of p out in
+    let period = period_of g p in
+    let gap = gap_of g p out in
+    let one = gap_some g can.rates port out p there some most in
+    let next = next_multiple every earlier last pass pass_last lt in
+    let far = numbered_far period (messages_at s port) ((timing.serial g trace can s r is).spread port p there) earlier n first m at_first at (omega arith) in
+    let spans : (every + 1) * period ≤ (n - earlier) * period = mul-le (every + 1) period (n - earlier) period (omega arith) (omega arith) in
+    let whole : (every + 1) * period ≡ every * period + period = omega arith in
+    let div = mod-add-div (every * period) (greatest_sends p out) in
+    let fit : greatest_sends p out * gap ≤ every * period = omega arith in
+    let mine : (j + 1) * gap ≤ greatest_sends p out * gap = mul-le (j + 1) gap (greatest_sends p out) gap (omega arith) (omega arith) in
+    let split : (j + 1) * gap ≡ j * gap + gap = omega arith in
+    omega arith
+
+pub messages_wait : MessagesWait
+messages_wait = record {
+  sent = λ g port number arrival sends out. ap (λ (ms : List PortMessage). cond (eqb (number % every_of port out) 0) ms []) (spaced_timed out (arrival + period_of g port) (gap_of g port out) sends);
+  input = λ g trace can s r is port p i there feed. input_at g trace can s r is port p i there feed;
+  at_port = λ g trace can s r is b due le port p there. at_port g trace can s r is b due le port p there;
+  at_output = λ g trace can s r is b due le n o there. at_output g trace can s r is b due le n o there;
+  port_comes = λ g trace can s r is port t. port_comes g trace can s r is port t;
+  port_one = λ g trace can s r is port t. port_one g trace can s r is port t;
+  output_comes = λ g trace can s r is n t. output_comes g trace can s r is n t;
+  old_come = λ g trace can s r is port n earlier last j p m first out there at at_first some most pass pass_last lt lt2 few. old_come g trace can s r is port n earlier last j p m first out there at at_first some most pass pass_last lt lt2 few;
+}

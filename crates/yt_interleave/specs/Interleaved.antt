@@ -1,0 +1,196 @@
+-- Interleaved handling at a moment: several messages are under way at once, at most one of each port.
+use Rattle.std.specs.Prelude.{◌≡◌, ℕ, zero, suc, ◌<◌, ◌≤◌, ◌==◌, ◌⊎◌, ℤ, pos, List, [], ◌∷◌, ◌++◌, map, length, slice_index_or, Option, Some, None, if◌then◌else◌}
+use Rattle.std.specs.List.{Contains}
+use Rattle.std.specs.Option.{unwrap_or}
+use Rattle.yt_graph.specs.declared.handled.Write.{Write}
+use Rattle.yt_graph.specs.declared.port.Feed as feed
+use Rattle.yt_graph.specs.declared.port.Feed.{Feed}
+use Rattle.yt_graph.specs.Meaning.{Handling, handling}
+use Rattle.yt_graph.specs.Picture.{GraphTree, PortTree}
+use Rattle.yt_log.specs.declared.job.Job.{Job}
+use Rattle.yt_log.specs.declared.plan.PlanItem.{PlanItem}
+use Rattle.yt_log.specs.Plan.{same_job}
+use Rattle.yt_log.specs.Tasks.{Has}
+use Rattle.yt_log.specs.Ticks.{Ticks, tick, done, IsLawful}
+use Rattle.yt_cost.specs.CodeAlone.{written_before}
+use Rattle.yt_cost.specs.CodeVars.{block_vars}
+use Rattle.yt_serial.specs.declared.trace.Message.{Message}
+use Rattle.yt_serial.specs.PortMessages.{PortMessage, numbered, passed}
+use Rattle.yt_serial.specs.SerialHandling.{Handled, Serial, messages_at, items_of, handled_of, start, brought, placed, no_port, serial_run}
+use Rattle.yt_interleave.specs.Handlers.{after_writes, writes_at}
+
+-- a job that has begun and not ended: its message, and the variables that serial handling has before it
+pub record Begun : Type 0 where
+  pub job : Job
+  pub message : PortMessage
+  pub vars : List ℤ
+
+-- the log so far; the variables; for each port the job that is under way; and the messages of each port and of each output
+-- that are known: those of the trace, and those that ended jobs passed on. The known messages whose time has come are placed, the others wait
+pub record Moment : Type 0 where
+  pub log : Ticks
+  pub vars : List ℤ
+  pub active : ℕ → Option Begun
+  pub messages : List (List PortMessage)
+  pub outputs : List (List PortMessage)
+
+-- the port of a number
+abbrev pub port_at : GraphTree → ℕ → PortTree
+port_at g port = unwrap_or (numbered g.ports port) no_port
+
+-- the resource of a port, 0 for none
+abbrev pub group_at : GraphTree → ℕ → ℕ
+group_at g port = (port_at g port).group
+
+-- a port's handler names a variable
+abbrev pub Uses : GraphTree → ℕ → ℕ → Type 0
+Uses g port v = Contains (block_vars (port_at g port).body) v
+
+-- the value of a variable
+abbrev pub value_at : List ℤ → ℕ → ℤ
+value_at vars v = slice_index_or vars v (pos 0)
+
+-- what the job does from its beginning to its end
+abbrev pub whole_of : GraphTree → Begun → Handling
+whole_of g b = handling (port_at g b.job.task) b.message.values b.vars
+
+-- its item in the plan
+abbrev pub item_of : GraphTree → Begun → PlanItem
+item_of g b = record { job = b.job; arrival = b.message.time; cost = (whole_of g b).ticks }
+
+-- the messages that it passes on through its outs
+abbrev pub passes_of : GraphTree → Begun → ℕ → List PortMessage
+passes_of g b = passed g (port_at g b.job.task) b.job.number b.message.time (whole_of g b).sends
+
+-- the known messages of a port
+abbrev pub known_at : Moment → ℕ → List PortMessage
+known_at r port = unwrap_or (numbered r.messages port) []
+
+-- a function with another value at one number
+abbrev pub put : {X : Type 0} → ℕ → X → (ℕ → X) → ℕ → X
+put n x f m = if m == n then x else f m
+
+-- what a job that is under way will pass on through an out
+abbrev pub passed_by : GraphTree → Option Begun → ℕ → List PortMessage
+passed_by g None out = []
+passed_by g (Some b) out = passes_of g b out
+
+-- what the jobs that are under way will bring a feed
+abbrev pub on_way : GraphTree → (ℕ → Option Begun) → Feed → List PortMessage
+on_way g active (feed.TheVariants.Input input) = []
+on_way g active (feed.TheVariants.Out port out) = passed_by g (active port) out
+
+-- each feed's messages, and behind them new ones
+abbrev pub added : (Feed → List PortMessage) → List Feed → List (List PortMessage) → List (List PortMessage)
+added brings [] messages = []
+added brings (f ∷ feeds) [] = []
+added brings (f ∷ feeds) (before ∷ messages) = (before ++ brings f) ∷ added brings feeds messages
+
+-- where the outputs' messages come from
+abbrev pub output_feeds : GraphTree → List Feed
+output_feeds g = map (λ o. feed.TheVariants.Out o.port o.out) g.outputs
+
+-- before anything happened: the messages of the trace are known
+abbrev pub first_moment : GraphTree → List Message → Moment
+first_moment g trace = record {
+  log = [];
+  vars = (start g trace).vars;
+  active = λ port. None;
+  messages = (start g trace).messages;
+  outputs = map (λ o. []) g.outputs;
+}
+
+-- a job begins with a message; `vars` are serial handling's variables before it
+abbrev pub with_begun : Job → PortMessage → List ℤ → Moment → Moment
+with_begun job message vars r =
+    record r { active = put job.task (Some (record { job = job; message = message; vars = vars })) r.active }
+
+-- a job that is under way is given a tick: its writes of that tick are made
+abbrev pub with_tick : GraphTree → Begun → Moment → Moment
+with_tick g b r = record r {
+  log = r.log ++ Some b.job ∷ [];
+  vars = after_writes (writes_at (done r.log b.job (length r.log)) (whole_of g b).writes) r.vars;
+}
+
+-- an idle tick
+abbrev pub with_idle : Moment → Moment
+with_idle r = record r { log = r.log ++ None ∷ [] }
+
+-- a job has ended: its messages get their times, and wait from now on
+abbrev pub with_end : GraphTree → Begun → Moment → Moment
+with_end g b r = record r {
+  active = put b.job.task None r.active;
+  messages = placed (brought b.job.task (passes_of g b)) g.ports r.messages;
+  outputs = added (brought b.job.task (passes_of g b)) (output_feeds g) r.outputs;
+}
+
+-- the writes of a job that was handled
+unfoldable pub writes_of : List Handled → Job → List Write
+writes_of [] job = []
+writes_of (h ∷ handled) job = if same_job h.item.job job then h.writes else writes_of handled job
+
+-- the writes of a tick that went to a job
+unfoldable pub writes_in : List Handled → Ticks → ℕ → Option Job → List Write
+writes_in handled log t None = []
+writes_in handled log t (Some job) = writes_at (done log job t) (writes_of handled job)
+
+-- the writes whose own tick is below t, in order of ticks
+unfoldable pub writes_below : List Handled → Ticks → ℕ → List Write
+writes_below handled log zero = []
+writes_below handled log (suc t) = writes_below handled log t ++ writes_in handled log t (tick log t)
+
+-- the variables at a tick: those at the start after all writes whose own tick is below it
+abbrev pub variables_at : List ℤ → List Handled → Ticks → ℕ → List ℤ
+variables_at vars handled log t = after_writes (writes_below handled log t) vars
+
+-- a job is under way at a port: it is the port's last that began, and its message has come
+pub record IsUnderWay (g : GraphTree) (s : Serial) (log : Ticks) (vars : List ℤ) (port : ℕ) (b : Begun) : Type 0 where
+  pub task : b.job.task ≡ port
+  pub number : b.job.number ≡ handled_of s port
+  pub there : numbered (messages_at s port) b.job.number ≡ Some b.message
+  pub arrived : b.message.time ≤ length log
+  pub item : Has (items_of s) (item_of g b)
+  pub writes : writes_of s.handled b.job ≡ (whole_of g b).writes
+  pub left : done log b.job (length log) ≤ (whole_of g b).ticks
+  -- its variables are what its writes so far make of those at its beginning, and serial handling has them as they will be at its end
+  pub count : length b.vars ≡ length vars
+  pub now : (v : ℕ) → Uses g port v → value_at vars v ≡ value_at (written_before (done log b.job (length log)) (whole_of g b).writes b.vars) v
+  pub later : (v : ℕ) → Uses g port v → value_at s.vars v ≡ value_at (whole_of g b).vars v
+
+-- a port's job that is under way uses a variable
+abbrev pub IsInUse : GraphTree → (ℕ → Option Begun) → ℕ → Type 0
+IsInUse g active v = (port : ℕ) × (b : Begun) × (active port ≡ Some b) × Uses g port v
+
+-- an item of serial handling is of a job that is under way, or of one that has ended
+abbrev pub IsEndedOrActive : GraphTree → Ticks → (ℕ → Option Begun) → PlanItem → Type 0
+IsEndedOrActive g log active z =
+    ((b : Begun) × (active z.job.task ≡ Some b) × (z ≡ item_of g b)) ⊎ (done log z.job (length log) ≡ z.cost)
+
+-- the number of a task's job
+abbrev pub job_of : ℕ → ℕ → Job
+job_of task number = record { task = task; number = number }
+
+-- no job of a port has a tick before all earlier ones of the port have begun
+abbrev pub BeginInTurn : Ticks → Type 0
+BeginInTurn log = (t : ℕ) (job : Job) → tick log t ≡ Some job → (k : ℕ) → 1 ≤ k → k < job.number → 0 < done log (job_of job.task k) t
+
+-- the interleaved run stands for serial handling along the jobs that have begun, in this order
+pub record StandsFor (g : GraphTree) (trace : List Message) (order : List Job) (s : Serial) (r : Moment) : Type 0 where
+  pub along : serial_run g order (start g trace) ≡ Some s
+  pub under_way : (port : ℕ) (b : Begun) → r.active port ≡ Some b → IsUnderWay g s r.log r.vars port b
+  pub exclusive : (p q : ℕ) (b c : Begun) → r.active p ≡ Some b → r.active q ≡ Some c → (p ≡ q → ⊥) → 0 < group_at g p → group_at g p ≡ group_at g q → ⊥
+  pub known : (port : ℕ) (b : Begun) → r.active port ≡ Some b → numbered (known_at r port) b.job.number ≡ Some b.message
+  -- the messages of serial handling are the known ones and those that the jobs under way will pass on
+  pub long : length r.messages ≡ length g.ports
+  pub messages : s.messages ≡ placed (on_way g r.active) g.ports r.messages
+  -- variables that no job under way uses are those of serial handling, and all are what the ticks so far have written
+  pub count : length r.vars ≡ length s.vars
+  pub others : (v : ℕ) → (value_at r.vars v ≡ value_at s.vars v) ⊎ IsInUse g r.active v
+  pub written : r.vars ≡ variables_at (start g trace).vars s.handled r.log (length r.log)
+  -- the log's jobs are those of serial handling, one item each
+  pub lawful : IsLawful (items_of s) r.log
+  pub named : (job : Job) → 0 < done r.log job (length r.log) → (z : PlanItem) × (Has (items_of s) z) × (z.job ≡ job)
+  pub ended : (z : PlanItem) → Has (items_of s) z → IsEndedOrActive g r.log r.active z
+  pub one : (a b : PlanItem) → Has (items_of s) a → Has (items_of s) b → a.job ≡ b.job → a ≡ b
+  pub all : (port k : ℕ) → 1 ≤ k → k ≤ handled_of s port → (z : PlanItem) × (Has (items_of s) z) × (z.job ≡ job_of port k) × (1 ≤ z.cost)
+  pub in_turn : BeginInTurn r.log

@@ -1,0 +1,84 @@
+-- What is proved of interleaved handling.
+use Rattle.std.specs.Prelude.{◌≡◌, ℕ, ℤ, ◌≤◌, ◌++◌, List, All, length, Some}
+use Rattle.yt_graph.specs.Picture.{GraphTree}
+use Rattle.yt_graph.specs.WellFormed.{IsWellFormed}
+use Rattle.yt_log.specs.declared.job.Job.{Job}
+use Rattle.yt_log.specs.declared.plan.PlanItem.{PlanItem}
+use Rattle.yt_log.specs.Tasks.{Has}
+use Rattle.yt_log.specs.Ticks.{Ticks, done, IsLawful}
+use Rattle.yt_log.specs.Laws.{RuleKeeps}
+use Rattle.yt_rates.specs.Faults.{IsWithinRates}
+use Rattle.yt_rates.specs.Tables.{tasks_of}
+use Rattle.yt_serial.specs.declared.shown.OutLine.{OutLine}
+use Rattle.yt_serial.specs.declared.trace.Message.{Message}
+use Rattle.yt_serial.specs.PortMessages.{PortMessage}
+use Rattle.yt_serial.specs.SerialHandling.{Handled, Serial, handle_message, handled_along, plan_of_log, start}
+use Rattle.yt_serial.specs.Told.{AllHandled, BeginsInOrder, IsPromisedRun}
+use Rattle.yt_serial.specs.Traces.{KeepsPeriods}
+use Rattle.yt_interleave.specs.Interleaved.{Begun, Moment, first_moment, with_begun, with_idle, variables_at}
+use Rattle.yt_interleave.specs.Moves.{MayBegin, after_tick, begun_of, Interleaves, IsOver}
+use Rattle.yt_interleave.specs.Timing.{GoesWith, IsLegalRun, IsShown}
+
+-- a graph and a trace that can be run
+pub record CanRun (g : GraphTree) (trace : List Message) : Type 0 where
+  pub well_formed : IsWellFormed g
+  pub rates : All (IsWithinRates g) g.ports
+  pub keeps : KeepsPeriods g trace
+
+-- before the first tick nothing is handled
+abbrev pub StartsSerial : Type 0
+StartsSerial = (g : GraphTree) (trace : List Message) → CanRun g trace → Interleaves g trace (start g trace) (first_moment g trace)
+
+-- in a tick in which a job begins, serial handling goes on by the job's step
+abbrev pub BeginsKeepSerial : Type 0
+BeginsKeepSerial =
+    (g : GraphTree) (trace : List Message) → CanRun g trace → (s : Serial) (r : Moment) → Interleaves g trace s r →
+    (job : Job) (m : PortMessage) → MayBegin g s r job m →
+    Interleaves g trace (handle_message g job m s) (after_tick g (begun_of job m s) (with_begun job m s.vars r))
+
+-- in each other tick of a job it stays where it is
+abbrev pub TicksKeepSerial : Type 0
+TicksKeepSerial =
+    (g : GraphTree) (trace : List Message) → CanRun g trace → (s : Serial) (r : Moment) → Interleaves g trace s r →
+    (port : ℕ) (b : Begun) → r.active port ≡ Some b → Interleaves g trace s (after_tick g b r)
+
+-- and so in an idle tick
+abbrev pub IdlingKeepsSerial : Type 0
+IdlingKeepsSerial =
+    (g : GraphTree) (trace : List Message) → CanRun g trace → (s : Serial) (r : Moment) → Interleaves g trace s r → Interleaves g trace s (with_idle r)
+
+-- what holds when all is over: the log tells the run of serial handling along its order of beginning, and the variables are those of serial handling
+pub record IsSerialRun (g : GraphTree) (trace : List Message) (s : Serial) (r : Moment) : Type 0 where
+  pub along : handled_along g trace r.log ≡ Some s
+  pub all : AllHandled g s
+  pub lawful : IsLawful (plan_of_log g trace r.log) r.log
+  pub finished : (item : PlanItem) → Has (plan_of_log g trace r.log) item → done r.log item.job (length r.log) ≡ item.cost
+  pub in_order : BeginsInOrder (plan_of_log g trace r.log) r.log
+  pub vars : r.vars ≡ s.vars
+
+abbrev pub EndsAreSerial : Type 0
+EndsAreSerial =
+    (g : GraphTree) (trace : List Message) → CanRun g trace → (s : Serial) (r : Moment) → Interleaves g trace s r → IsOver g s r → IsSerialRun g trace s r
+
+-- however the log goes on, and whatever serial handling along it comes to: the variables now are those at the start after all writes of the ticks so far
+abbrev pub VariablesAreWritten : Type 0
+VariablesAreWritten =
+    (g : GraphTree) (trace : List Message) → CanRun g trace → (s : Serial) (r : Moment) → Interleaves g trace s r →
+    (more : Ticks) (whole : Serial) → handled_along g trace (r.log ++ more) ≡ Some whole →
+    variables_at (start g trace).vars whole.handled (r.log ++ more) (length r.log) ≡ r.vars
+
+-- after the end of the log they stay
+abbrev pub VariablesStay : Type 0
+VariablesStay = (vars : List ℤ) (handled : List Handled) (log : Ticks) (t : ℕ) → length log ≤ t → variables_at vars handled log t ≡ variables_at vars handled log (length log)
+
+-- where the graph's tasks fit, and the log is the rule's for a legal plan that goes with the run, it keeps every promise of a run
+abbrev pub EndsArePromised : Type 0
+EndsArePromised =
+    (g : GraphTree) (trace : List Message) → CanRun g trace → RuleKeeps (tasks_of g) → (s : Serial) (r : Moment) → Interleaves g trace s r → IsOver g s r →
+    (plan : List PlanItem) (due : ℕ) → GoesWith s r due plan → IsLegalRun g plan r.log → (lines : List OutLine) → IsShown s r.log lines → IsPromisedRun g trace r.log lines
+
+-- two promised runs of one graph on one trace are one
+abbrev pub RunsAreOne : Type 0
+RunsAreOne =
+    (g : GraphTree) (trace : List Message) → CanRun g trace → (a b : Ticks) (lines more : List OutLine) →
+    IsPromisedRun g trace a lines → IsPromisedRun g trace b more → (a ≡ b) × (lines ≡ more)

@@ -1,0 +1,44 @@
+-- The messages of outputs, and what is shown of them.
+use Rattle.std.specs.Prelude.{◌≡◌, ℕ, ◌==◌, nat_lt, false, List, [], ◌∷◌, length, if◌then◌else◌}
+use Rattle.std.specs.Option.{unwrap_or}
+use Rattle.yt_graph.specs.Picture.{GraphTree}
+use Rattle.yt_log.specs.Tasks.{Has}
+use Rattle.yt_serial.specs.declared.shown.OutLine.{OutLine}
+use Rattle.yt_serial.specs.PortMessages.{PortMessage, numbered}
+use Rattle.yt_serial.specs.SerialHandling.{Serial, shown}
+use Rattle.yt_serial.specs.Told.{line_before}
+use Rattle.yt_interleave.specs.Interleaved.{Moment, on_way, added, output_feeds}
+
+-- the lines of an output
+abbrev pub lines_of : ℕ → List OutLine → List OutLine
+lines_of n [] = []
+lines_of n (l ∷ lines) = if l.output == n then l ∷ lines_of n lines else lines_of n lines
+
+-- the messages of an output
+abbrev pub messages_to : List (List PortMessage) → ℕ → List PortMessage
+messages_to outputs n = unwrap_or (numbered outputs n) []
+
+-- the lines of serial handling are those of the known messages and of those that the jobs under way will pass on
+pub record KnowsLines (g : GraphTree) (s : Serial) (r : Moment) : Type 0 where
+  pub count : length r.outputs ≡ length g.outputs
+  pub lines : (n : ℕ) → lines_of n s.lines ≡ shown n (messages_to (added (on_way g r.active) (output_feeds g) r.outputs) n)
+
+-- lines of which none stands before an earlier one
+abbrev pub AreInLineOrder : List OutLine → Type 0
+AreInLineOrder [] = Unit {0}
+AreInLineOrder (l ∷ lines) = ((x : OutLine) → Has lines x → line_before x l ≡ false) × AreInLineOrder lines
+
+-- the messages that come before a tick
+abbrev pub come_before : ℕ → List PortMessage → List PortMessage
+come_before due [] = []
+come_before due (m ∷ messages) = if nat_lt m.time due then m ∷ come_before due messages else come_before due messages
+
+-- the messages that come at a tick
+abbrev pub come_at : ℕ → List PortMessage → List PortMessage
+come_at t [] = []
+come_at t (m ∷ messages) = if m.time == t then m ∷ come_at t messages else come_at t messages
+
+-- what was shown: in order, the known messages of each output that came before a tick
+pub record HasShown (r : Moment) (due : ℕ) (lines : List OutLine) : Type 0 where
+  pub order : AreInLineOrder lines
+  pub each : (n : ℕ) → lines_of n lines ≡ shown n (come_before due (messages_to r.outputs n))
