@@ -21,12 +21,11 @@ use Rattle.yt_serial.specs.declared.trace.Message.{Message}
 use Rattle.yt_serial.specs.PortMessages.{PortMessage, numbered}
 use Rattle.yt_serial.specs.SerialHandling.{Handled, Serial, messages_at, items_of, handled_of, brought, placed, start, handle_message, serial_step}
 use Rattle.yt_serial.specs.Traces.{KeepsPeriods}
-use Rattle.yt_serial.proofs.Lemmas.{Holds, placed_at, port_there, numbered_left, serial_holds, run_push, step_of}
+use Rattle.yt_serial.proofs.Lemmas.{Holds, placed_at, port_there, numbered_left, serial_holds, run_push, step_of, writes_of_push_other, writes_of_push_same, writes_below_more}
 use Rattle.yt_interleave.specs.Interleaved.{Begun, Moment, port_at, group_at, Uses, value_at, item_of, passes_of, known_at, put, on_way, with_begun, IsUnderWay, IsInUse, IsEndedOrActive, job_of, StandsFor}
-use Rattle.yt_interleave.specs.Handlers.{after_writes}
+use Rattle.yt_serial.specs.Variables.{after_writes}
 use Rattle.yt_interleave.specs.Moves.{MayBegin}
 use Rattle.yt_interleave.proofs.HandlerWrites.{IsWritten, handling_written, written_none, after_writes-length, kept_after, kept_or_written}
-use Rattle.yt_interleave.proofs.Logs.{writes_of_push_other, writes_of_push_same, writes_below_more}
 use Rattle.yt_interleave.proofs.Pieces.{put_same, put_other, put_cases, has_left, has_last, placed_twice, on_way_begun}
 use Rattle.yt_interleave.proofs.Sharing.{shared}
 

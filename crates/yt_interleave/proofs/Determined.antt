@@ -33,8 +33,10 @@ use Rattle.yt_serial.specs.SerialHandling.{Handled, Serial, messages_at, items_o
 use Rattle.yt_serial.specs.Told.{line_before, latest, AllHandled, IsPromisedRun}
 use Rattle.yt_serial.proofs.Lemmas.{busy_until_le, Agree, done_same, begun_same, Holds, placed_at, port_there, feed_cases, message_there, get_cases, numbered_left, stepped, holds_stepped, serial_holds}
 use Rattle.yt_interleave.specs.Interleaved as own
-use Rattle.yt_interleave.specs.Interleaved.{port_at, Begun, passes_of, variables_at}
-use Rattle.yt_interleave.specs.Laws.{CanRun, RunsAreOne}
+use Rattle.yt_interleave.specs.Interleaved.{port_at, Begun, passes_of}
+use Rattle.yt_serial.specs.Variables.{variables_at}
+use Rattle.yt_serial.specs.Laws.{CanRun}
+use Rattle.yt_interleave.specs.Laws.{RunsAreOne}
 use Rattle.yt_interleave.proofs.Over.{goes_on, has_append, has_sorted, sorted_has, variables_are_written}
 use Rattle.yt_interleave.proofs.Pieces.{has_left, has_last}
 use Rattle.yt_interleave.specs.Runs.{IsRunnable, IsRunning, StartsWith, RunsAgree}

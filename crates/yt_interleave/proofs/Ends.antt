@@ -11,13 +11,11 @@ use Rattle.yt_serial.specs.declared.trace.Message.{Message}
 use Rattle.yt_serial.specs.Beginnings.{busy_until}
 use Rattle.yt_serial.specs.SerialHandling.{Serial}
 use Rattle.yt_serial.specs.Told.{latest}
-use Rattle.yt_serial.proofs.Lemmas.{busy_until_within}
+use Rattle.yt_serial.proofs.Lemmas.{busy_until_within, length_push, tick_last, lines_has}
 use Rattle.yt_interleave.specs.Interleaved.{Moment}
 use Rattle.yt_interleave.specs.Lines.{messages_to}
 use Rattle.yt_interleave.specs.Runs.{IsRunning, RunsEnd}
-use Rattle.yt_interleave.proofs.Logs.{length_push, tick_last}
 use Rattle.yt_interleave.proofs.Shown.{has_before}
-use Rattle.yt_interleave.proofs.Sorting.{lines_has}
 
 latest_within : (t : ℕ) (lines : List OutLine) → ((l : OutLine) → Has lines l → l.time ≤ t) → latest lines ≤ t
 latest_within t [] early = omega arith

@@ -28,7 +28,7 @@ use Rattle.yt_interleave.specs.Interleaved.{Begun, port_at, group_at, known_at, 
 use Rattle.yt_interleave.specs.Moves.{MayBegin, after_tick, begun_of, IsOver}
 use Rattle.yt_interleave.specs.Runs.{IsRunnable, IsRunning}
 use Rattle.yt_interleave.specs.Timing.{IsPending, IsResourceFree}
-use Rattle.yt_interleave.proofs.Logs.{done_this}
+use Rattle.yt_serial.proofs.Lemmas.{done_this}
 use Rattle.yt_interleave.proofs.Over.{on_way_none}
 use Rattle.yt_interleave.proofs.Pieces.{placed_none, put_same}
 use Rattle.yt_interleave.proofs.Steps.{after_last, after_other}

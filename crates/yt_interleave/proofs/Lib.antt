@@ -1,6 +1,5 @@
 pub mod Carrying
 pub mod Begin
-pub mod Bounds
 pub mod Determined
 pub mod End
 pub mod Ends
@@ -8,7 +7,6 @@ pub mod ExecutiveTicks
 pub mod Executives
 pub mod HandlerSends
 pub mod HandlerWrites
-pub mod Logs
 pub mod Machines
 pub mod NextJobs
 pub mod OnWay
@@ -16,10 +14,8 @@ pub mod Over
 pub mod Pieces
 pub mod Plans
 pub mod Promised
-pub mod SerialLines
 pub mod Sharing
 pub mod Shown
-pub mod Sorting
 pub mod Steps
 pub mod Tick
 pub mod Timing

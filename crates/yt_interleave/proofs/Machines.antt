@@ -21,9 +21,9 @@ use Rattle.yt_serial.specs.declared.trace.Message.{Message}
 use Rattle.yt_serial.specs.Beginnings.{order_of}
 use Rattle.yt_serial.specs.PortMessages.{PortMessage}
 use Rattle.yt_serial.specs.SerialHandling.{Serial}
-use Rattle.yt_interleave.specs.Handlers.{after_writes, writes_at}
+use Rattle.yt_serial.specs.Variables.{after_writes, writes_at}
 use Rattle.yt_interleave.specs.Interleaved.{Begun, Moment, port_at, value_at, whole_of}
-use Rattle.yt_interleave.specs.Laws.{CanRun}
+use Rattle.yt_serial.specs.Laws.{CanRun}
 use Rattle.yt_interleave.specs.Machines.{IsAloneAt, GoesOnAlone, EndsAlone, IsTickOf, left_more, left_by, ticks_left, MachinesGoOn}
 use Rattle.yt_interleave.specs.Moves.{MayBegin, Interleaves}
 use Rattle.yt_interleave.proofs.Begin as begin

@@ -24,15 +24,15 @@ use Rattle.yt_serial.specs.Beginnings.{newcomer, begun_below, order_of}
 use Rattle.yt_serial.specs.PortMessages.{PortMessage, numbered}
 use Rattle.yt_serial.specs.SerialHandling.{Handled, Serial, messages_at, items_of, start, port_of, serial_step, serial_run, plan_of, plan_of_log}
 use Rattle.yt_serial.specs.Told.{AllHandled, BeginsInOrder}
-use Rattle.yt_serial.proofs.Lemmas.{begun_below-append, plans_are_legal, feed_cases, port_there, numbered_apart, stepped}
+use Rattle.yt_serial.proofs.Lemmas.{begun_below-append, plans_are_legal, feed_cases, port_there, numbered_apart, stepped, writes_below-suc, writes_below_more, writes_below_prefix, writes_in_idle, begun-suc}
 use Rattle.yt_rates.specs.Rates.{period_of}
 use Rattle.yt_rates.specs.Tables.{tasks_of}
-use Rattle.yt_interleave.specs.Handlers.{after_writes}
-use Rattle.yt_interleave.specs.Interleaved.{Begun, Moment, value_at, passed_by, on_way, item_of, writes_in, writes_below, job_of, IsInUse, StandsFor}
-use Rattle.yt_interleave.specs.Laws.{CanRun, IsSerialRun, EndsAreSerial, VariablesAreWritten, VariablesStay}
+use Rattle.yt_serial.specs.Variables.{after_writes, writes_in, writes_below}
+use Rattle.yt_interleave.specs.Interleaved.{Begun, Moment, value_at, passed_by, on_way, item_of, job_of, IsInUse, StandsFor}
+use Rattle.yt_serial.specs.Laws.{CanRun, VariablesStay}
+use Rattle.yt_interleave.specs.Laws.{IsSerialRun, EndsAreSerial, VariablesAreWritten}
 use Rattle.yt_interleave.specs.Moves.{Interleaves, IsOver}
 use Rattle.yt_interleave.proofs.Begin.{serial}
-use Rattle.yt_interleave.proofs.Logs.{writes_below-suc, writes_below_more, writes_below_prefix, writes_in_idle}
 use Rattle.yt_interleave.proofs.Pieces.{placed_none}
 
 -- what is in a sorted list is in the list, and the other way round
@@ -140,7 +140,7 @@ module _ (g : GraphTree) (trace : List Message) (can : CanRun g trace) (s : Seri
 
     cost_some : (z : PlanItem) → Has (items_of s) z → 1 ≤ z.cost
     cost_some z has =
-        let legal = plans_are_legal g trace (order_of r.log) s (record { well_formed = can.well_formed; rates = can.rates; keeps = can.keeps; along = stands.along }) in
+        let legal = plans_are_legal g trace (order_of r.log) s (record { can = can; along = stands.along }) in
         (good_item (tasks_of g) (plan_of s) legal z (sorted_has (items_of s) z has)).some
 
     arrive_in_turn : (x y : PlanItem) → Has (items_of s) x → Has (items_of s) y → x.job.task ≡ y.job.task → x.job.number < y.job.number → x.arrival ≤ y.arrival
@@ -205,10 +205,6 @@ newcomers log n t (Some k) le j h =
     absurd (subst (λ (xs : List Job). Has xs j) (cond-false {A = List Job} (eqb (done log k t) 0) (k ∷ []) [] (ne_eqb (done log k t) 0 ne)) h))
     (cases_eq (done log k t) 0)
 
-pub begun-suc : (log : Ticks) (t : ℕ) → begun_below log (suc t) ≡ begun_below log t ++ newcomer log t (tick log t)
-unfolding begun_below
-begun-suc log t = refl
-
 pub has_append : (xs ys : List Job) (j : Job) → Has (xs ++ ys) j → Has xs j ⊎ Has ys j
 has_append [] ys j h = inr h
 has_append (x ∷ xs) ys j h =
@@ -265,21 +261,3 @@ variables_are_written g trace can s r is more whole along =
     ap (λ (ws : List Write). after_writes ws (start g trace).vars)
     (writes_stay g log n go.later s whole rest go.none ∙ writes_below_prefix s.handled r.log more n (omega arith))
     ∙ sym is.stands.written
-
-none_past : (log : Ticks) (t : ℕ) → length log ≤ t → tick log t ≡ None
-unfolding tick
-none_past log t le = get_or_past log t None le
-
-writes_past : (handled : List Handled) (log : Ticks) (n : ℕ) → writes_below handled log (length log + n) ≡ writes_below handled log (length log)
-writes_past handled log zero = ap (writes_below handled log) (omega arith)
-writes_past handled log (suc n) =
-    ap (writes_below handled log) (omega arith)
-    ∙ writes_below-suc handled log (length log + n)
-    ∙ ap (λ (ws : List Write). writes_below handled log (length log + n) ++ ws) (ap (writes_in handled log (length log + n)) (none_past log (length log + n) (omega arith)) ∙ writes_in_idle handled log (length log + n))
-    ∙ append-nil (writes_below handled log (length log + n))
-    ∙ writes_past handled log n
-
-pub variables_stay : VariablesStay
-variables_stay vars handled log t le =
-    let e : t ≡ length log + (t - length log) = omega arith in
-    ap (λ (ws : List Write). after_writes ws vars) (ap (writes_below handled log) e ∙ writes_past handled log (t - length log))

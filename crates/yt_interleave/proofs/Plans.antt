@@ -23,14 +23,13 @@ use Rattle.yt_serial.specs.declared.trace.Message.{Message}
 use Rattle.yt_serial.specs.Beginnings.{order_of}
 use Rattle.yt_serial.specs.PortMessages.{PortMessage, numbered}
 use Rattle.yt_serial.specs.SerialHandling.{Handled, Serial, items_of, brought, handle_message}
-use Rattle.yt_serial.proofs.Lemmas.{placed_at, placed-length, port_there, get_cases, numbered_left}
+use Rattle.yt_serial.proofs.Lemmas.{placed_at, placed-length, port_there, get_cases, numbered_left, length_push, cases_job}
 use Rattle.yt_interleave.specs.Interleaved as own
 use Rattle.yt_interleave.specs.Interleaved.{Begun, Moment, port_at, known_at, whole_of, item_of, passes_of, with_begun, with_tick, with_end, with_idle, StandsFor}
-use Rattle.yt_interleave.specs.Laws.{CanRun}
+use Rattle.yt_serial.specs.Laws.{CanRun}
 use Rattle.yt_interleave.specs.Moves.{MayBegin, after_tick, begun_of, Interleaves, IsOver}
 use Rattle.yt_interleave.specs.Timing.{GoesWith}
 use Rattle.yt_interleave.proofs.Begin as begin
-use Rattle.yt_interleave.proofs.Logs.{length_push, cases_job}
 use Rattle.yt_interleave.proofs.Pieces.{has_left}
 use Rattle.yt_interleave.proofs.Steps.{after_last, after_other}
 use Rattle.yt_interleave.proofs.Timing.{passes_late, known_port}

@@ -20,7 +20,8 @@ use Rattle.yt_serial.specs.SerialHandling.{Serial, messages_at, items_of, plan_o
 use Rattle.yt_serial.specs.Told.{NoneReplaced}
 use Rattle.yt_serial.proofs.Lemmas.{log_plans_are_legal, port_there}
 use Rattle.yt_interleave.specs.Interleaved.{Moment}
-use Rattle.yt_interleave.specs.Laws.{CanRun, IsSerialRun, EndsArePromised}
+use Rattle.yt_serial.specs.Laws.{CanRun}
+use Rattle.yt_interleave.specs.Laws.{IsSerialRun, EndsArePromised}
 use Rattle.yt_interleave.specs.Moves.{Interleaves}
 use Rattle.yt_interleave.proofs.Over.{ends_are_serial, has_sorted, sorted_has}
 use Rattle.yt_interleave.proofs.Plans.{only_begun, rule_same}
@@ -31,7 +32,7 @@ ends_are_promised g trace can keeps s r is over plan due goes by lines show =
     let tasks = tasks_of g in
     let told : IsSerialRun g trace s r = ends_are_serial g trace can s r is over in
     let whole = plan_of_log g trace r.log in
-    let legal : IsLegal tasks whole = log_plans_are_legal g trace r.log can.well_formed can.rates can.keeps in
+    let legal : IsLegal tasks whole = log_plans_are_legal g trace r.log can in
     let plan_is : whole ≡ plan_of s = ap (λ (o : Option Serial). option_map_or plan_of o []) told.along in
     let into : (z : PlanItem) → Has plan z → Has whole z = λ z has. subst (λ (xs : List PlanItem). Has xs z) (sym plan_is) (sorted_has (items_of s) z (only_begun g trace can s r is over plan due goes by.legal z has)) in
     let items : (z : PlanItem) → Has whole z → Has (items_of s) z = λ z has. has_sorted (items_of s) z (subst (λ (xs : List PlanItem). Has xs z) plan_is has) in

@@ -17,12 +17,11 @@ use Rattle.yt_serial.specs.declared.trace.Message.{Message}
 use Rattle.yt_serial.specs.PortMessages.{PortMessage}
 use Rattle.yt_serial.specs.SerialHandling.{Serial, brought, shown, all_shown, start, handle_message}
 use Rattle.yt_serial.specs.Told.{line_before}
-use Rattle.yt_serial.proofs.Lemmas.{feed_cases}
+use Rattle.yt_serial.proofs.Lemmas.{feed_cases, lines_append, all_before, all_at, all_past, has_two, LinesHold, TimesRise, from_not, lines_has, sorted_is}
 use Rattle.yt_interleave.specs.Interleaved.{Begun, Moment, port_at, passes_of, passed_by, put, on_way, added, output_feeds, first_moment, with_begun, with_tick, with_end}
-use Rattle.yt_interleave.specs.Lines.{lines_of, messages_to, KnowsLines, AreInLineOrder, come_before, come_at, HasShown}
+use Rattle.yt_serial.specs.Lines.{lines_of, AreInLineOrder}
+use Rattle.yt_interleave.specs.Lines.{messages_to, KnowsLines, come_before, come_at, HasShown}
 use Rattle.yt_interleave.proofs.Pieces.{added_twice, added_none, added_at, added-length, on_way_begun, on_way_ended}
-use Rattle.yt_interleave.proofs.SerialLines.{lines_append, all_before, all_at, all_past, has_two, LinesHold}
-use Rattle.yt_interleave.proofs.Sorting.{TimesRise, from_not, lines_has, sorted_is}
 use Rattle.yt_interleave.proofs.Timing.{passes_late}
 
 shown-append : (n : ℕ) (xs ys : List PortMessage) → shown n (xs ++ ys) ≡ shown n xs ++ shown n ys

@@ -13,17 +13,17 @@ use Rattle.yt_log.proofs.Appends.{jobs_none}
 use Rattle.yt_serial.specs.declared.trace.Message.{Message}
 use Rattle.yt_serial.specs.Beginnings.{begun_below, order_of}
 use Rattle.yt_serial.specs.SerialHandling.{Serial, start, from_outside, handle_message}
-use Rattle.yt_serial.proofs.Lemmas.{begun_fresh, begun_again, begun_idle, begun_below-append, feed_cases}
-use Rattle.yt_interleave.specs.Handlers.{after_writes}
+use Rattle.yt_serial.proofs.Lemmas.{begun_fresh, begun_again, begun_idle, begun_below-append, feed_cases, length_push, tick_last, done_before, done_this, done_other, writes_below_zero}
+use Rattle.yt_serial.specs.Variables.{after_writes}
 use Rattle.yt_interleave.specs.Interleaved.{Begun, Moment, port_at, whole_of, put, on_way, first_moment, with_begun, with_tick, with_end, with_idle, StandsFor}
-use Rattle.yt_interleave.specs.Laws.{CanRun, StartsSerial, BeginsKeepSerial, TicksKeepSerial, IdlingKeepsSerial}
+use Rattle.yt_serial.specs.Laws.{CanRun}
+use Rattle.yt_interleave.specs.Laws.{StartsSerial, BeginsKeepSerial, TicksKeepSerial, IdlingKeepsSerial}
 use Rattle.yt_interleave.specs.Lines.{KnowsLines}
 use Rattle.yt_interleave.specs.Moves.{after_tick, begun_of, Interleaves}
 use Rattle.yt_interleave.proofs.Begin as begin
 use Rattle.yt_interleave.proofs.End as end
 use Rattle.yt_interleave.proofs.Tick as ticks
 use Rattle.yt_interleave.proofs.HandlerWrites.{handling_written}
-use Rattle.yt_interleave.proofs.Logs.{length_push, tick_last, done_before, done_this, done_other, writes_below_zero}
 use Rattle.yt_interleave.proofs.Shown.{knows_begun, knows_ended, knows_tick, knows_first}
 use Rattle.yt_interleave.proofs.Pieces.{put_same, put_cases, placed_none}
 

@@ -16,11 +16,11 @@ use Rattle.yt_cost.specs.CodeAlone.{written_before}
 use Rattle.yt_serial.specs.declared.trace.Message.{Message}
 use Rattle.yt_serial.specs.SerialHandling.{Serial, items_of, start}
 use Rattle.yt_serial.specs.Traces.{KeepsPeriods}
-use Rattle.yt_interleave.specs.Handlers.{after_writes, writes_at}
-use Rattle.yt_interleave.specs.Interleaved.{Begun, Moment, port_at, Uses, value_at, whole_of, item_of, with_tick, with_idle, writes_below, IsUnderWay, IsInUse, IsEndedOrActive, job_of, BeginInTurn, StandsFor}
+use Rattle.yt_serial.specs.Variables.{after_writes, writes_at, writes_below}
+use Rattle.yt_interleave.specs.Interleaved.{Begun, Moment, port_at, Uses, value_at, whole_of, item_of, with_tick, with_idle, IsUnderWay, IsInUse, IsEndedOrActive, job_of, BeginInTurn, StandsFor}
 use Rattle.yt_interleave.proofs.Begin.{not_both}
 use Rattle.yt_interleave.proofs.HandlerWrites.{IsWritten, handling_written, written_more, after_writes-append, after_writes-length, kept_after, kept_or_written, same_after, has_at, before_length}
-use Rattle.yt_interleave.proofs.Logs.{length_push, tick_cases, done_before, done_other, done_this, writes_below_push, writes_in_job, writes_in_idle, cases_job}
+use Rattle.yt_serial.proofs.Lemmas.{length_push, tick_cases, done_before, done_other, done_this, writes_below_push, writes_in_job, writes_in_idle, cases_job}
 
 -- a longer log keeps what is lawful and in turn, where its last tick is so
 module _ (items : List PlanItem) (log : Ticks) (o : Option Job) where

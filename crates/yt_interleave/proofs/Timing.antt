@@ -24,7 +24,7 @@ use Rattle.yt_serial.specs.PortMessages.{PortMessage, numbered}
 use Rattle.yt_serial.specs.SerialHandling.{Serial, messages_at, items_of, handled_of, brought}
 use Rattle.yt_serial.proofs.Lemmas.{Holds, port_there, BringsOf, brings, spaced_within, numbered_apart}
 use Rattle.yt_interleave.specs.Interleaved.{Begun, Moment, port_at, known_at, whole_of, item_of, passes_of, job_of, StandsFor}
-use Rattle.yt_interleave.specs.Laws.{CanRun}
+use Rattle.yt_serial.specs.Laws.{CanRun}
 use Rattle.yt_interleave.specs.Moves.{MayBegin, Interleaves}
 use Rattle.yt_interleave.specs.Timing.{HasEnded, IsOnTime, IsPending, IsResourceFree, GoesWith}
 use Rattle.yt_interleave.proofs.Begin as begin

@@ -13,7 +13,7 @@ use Rattle.yt_graph.specs.declared.port.Feed.TheVariants.{Input, Out}
 use Rattle.yt_graph.specs.Meaning.{handling}
 use Rattle.yt_graph.specs.Cost.{greatest_sends}
 use Rattle.yt_rates.specs.Faults.{IsWithinRates}
-use Rattle.yt_serial.proofs.Lemmas.{next_multiple, numbered_far, Holds, placed_at, stepped, holds_stepped, serial_holds}
+use Rattle.yt_serial.proofs.Lemmas.{inputs_stay, next_multiple, numbered_far, Holds, placed_at, stepped, holds_stepped, serial_holds, lines_hold, TimesRise}
 use Rattle.yt_graph.specs.Picture.{GraphTree, PortTree}
 use Rattle.yt_log.specs.declared.job.Job.{Job}
 use Rattle.yt_log.specs.Tasks.{Has}
@@ -25,14 +25,12 @@ use Rattle.yt_serial.specs.Beginnings.{order_of}
 use Rattle.yt_serial.specs.PortMessages.{PortMessage, numbered, messages_of, spaced, passed}
 use Rattle.yt_serial.specs.SerialHandling.{Serial, messages_at, brought, from_outside, shown, start, port_of, serial_step, serial_run}
 use Rattle.yt_interleave.specs.Interleaved.{Begun, Moment, port_at, known_at, passes_of, on_way, output_feeds, with_end}
-use Rattle.yt_interleave.specs.Laws.{CanRun}
+use Rattle.yt_serial.specs.Laws.{CanRun}
 use Rattle.yt_interleave.specs.Lines.{messages_to, come_at}
 use Rattle.yt_interleave.specs.Moves.{Interleaves}
 use Rattle.yt_interleave.specs.Waits.{wait_from, timed, MessagesWait}
 use Rattle.yt_interleave.proofs.Pieces.{added_at}
-use Rattle.yt_interleave.proofs.SerialLines.{lines_hold}
 use Rattle.yt_interleave.proofs.Shown.{known_rise}
-use Rattle.yt_interleave.proofs.Sorting.{TimesRise}
 use Rattle.yt_interleave.proofs.Timing as timing
 use Rattle.yt_interleave.proofs.Timing.{passes_late, period_some}
 
@@ -136,20 +134,6 @@ one_apart t period (m ∷ ms) some apart =
     later (x ∷ xs) late = come_no t x xs (λ e. let lt = late 0 x refl in absurd (omega arith)) ∙ later xs (λ k y h. late (suc k) y h)
 
 module _ (g : GraphTree) (trace : List Message) (can : CanRun g trace) where
-  -- what a port of an input has in serial handling
-  pub inputs_stay : (order : List Job) (s t : Serial) → Holds g s → serial_run g order s ≡ Some t → (k : ℕ) (p : PortTree) (i : ℕ) → slice_get g.ports k ≡ Some p → p.feed ≡ Input i → messages_at t (suc k) ≡ messages_at s (suc k)
-  inputs_stay [] s t holds along k p i is feed = ap (λ (x : Serial). messages_at x (suc k)) (sym (same_Some s t along))
-  inputs_stay (job ∷ order) s t holds along k p i is feed =
-      option_and_then_some {P = messages_at t (suc k) ≡ messages_at s (suc k)} (serial_run g order) (serial_step g job s) t along
-      (λ x step rest.
-      let m = stepped g job s x step in
-      let passes : ℕ → List PortMessage = passed g (port_of g job) job.number m.0.time (handling (port_of g job) m.0.values s.vars).sends in
-      inputs_stay order x t (holds_stepped g can.well_formed can.rates job s x holds step) rest k p i is feed
-      ∙ ap (λ (y : Serial). messages_at y (suc k)) (sym m.2)
-      ∙ placed_at (brought job.task passes) g.ports s.messages k p holds.long is
-      ∙ ap (λ (f : Feed). messages_at s (suc k) ++ brought job.task passes f) feed
-      ∙ append-nil (messages_at s (suc k)))
-
   module _ (s : Serial) (r : Moment) (is : Interleaves g trace s r) where
     input_at : (port : ℕ) (p : PortTree) (i : ℕ) → numbered g.ports port ≡ Some p → p.feed ≡ Input i → known_at r port ≡ messages_of i trace
     input_at zero p i there feed = absurd (none-some p there)
@@ -162,7 +146,7 @@ module _ (g : GraphTree) (trace : List Message) (can : CanRun g trace) where
         ap (λ (o : Option (List PortMessage)). unwrap_or o []) (slice_get-map (λ (p : PortTree). from_outside trace p.feed) g.ports k ∙ ap (option_map (λ (p : PortTree). from_outside trace p.feed)) there)
         ∙ ap (from_outside trace) feed in
         sym known
-        ∙ inputs_stay (order_of r.log) (start g trace) s (serial_holds g can.well_formed can.rates trace can.keeps [] (start g trace) refl) is.stands.along k p i there feed
+        ∙ inputs_stay g trace can (order_of r.log) (start g trace) s (serial_holds g can.well_formed can.rates trace can.keeps [] (start g trace) refl) is.stands.along k p i there feed
         ∙ first
 
     at_port : (b : Begun) (due : ℕ) → due ≤ b.message.time + period_of g (port_at g b.job.task) → (port : ℕ) (p : PortTree) → numbered g.ports port ≡ Some p

@@ -20,17 +20,16 @@ use Rattle.yt_serial.specs.Beginnings.{order_of, busy_until}
 use Rattle.yt_serial.specs.PortMessages.{PortMessage, numbered}
 use Rattle.yt_serial.specs.SerialHandling.{Serial, shown, no_port, start, handle_message}
 use Rattle.yt_serial.specs.Told.{latest, IsPromisedRun}
-use Rattle.yt_serial.proofs.Lemmas.{port_there}
+use Rattle.yt_serial.proofs.Lemmas.{port_there, length_push, tick_last, done_before, lines_hold}
 use Rattle.yt_interleave.specs.Interleaved.{Begun, Moment, port_at, group_at, known_at, whole_of, item_of, first_moment, with_begun, with_tick, with_idle}
-use Rattle.yt_interleave.specs.Lines.{lines_of, come_before, HasShown, KnowsLines}
+use Rattle.yt_serial.specs.Lines.{lines_of}
+use Rattle.yt_interleave.specs.Lines.{come_before, HasShown, KnowsLines}
 use Rattle.yt_interleave.specs.Moves.{MayBegin, after_tick, begun_of, Interleaves, IsOver}
 use Rattle.yt_interleave.specs.Runs.{IsRunnable, IsRunning, AreReleased, AreShownNow, AllCome, RunsGoOn, RunsAreOnTime}
 use Rattle.yt_interleave.specs.Timing.{HasEnded, IsOnTime, IsPending, IsResourceFree, GoesWith, IsLegalRun}
 use Rattle.yt_interleave.proofs.Executives.{group_is}
-use Rattle.yt_interleave.proofs.Logs.{length_push, tick_last, done_before}
 use Rattle.yt_interleave.proofs.Plans as plans
 use Rattle.yt_interleave.proofs.Promised.{ends_are_promised}
-use Rattle.yt_interleave.proofs.SerialLines.{lines_hold}
 use Rattle.yt_interleave.proofs.Shown.{shows, still_shown, all_are_shown, knows_begun, before_late}
 use Rattle.yt_interleave.proofs.Steps.{after_last, after_other, starts_serial, begins_keep_serial, ticks_keep_serial, idling_keeps_serial}
 use Rattle.yt_interleave.proofs.Timing as timing

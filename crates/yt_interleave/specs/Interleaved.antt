@@ -17,7 +17,7 @@ use Rattle.yt_cost.specs.CodeVars.{block_vars}
 use Rattle.yt_serial.specs.declared.trace.Message.{Message}
 use Rattle.yt_serial.specs.PortMessages.{PortMessage, numbered, passed}
 use Rattle.yt_serial.specs.SerialHandling.{Handled, Serial, messages_at, items_of, handled_of, start, brought, placed, no_port, serial_run}
-use Rattle.yt_interleave.specs.Handlers.{after_writes, writes_at}
+use Rattle.yt_serial.specs.Variables.{after_writes, writes_at, writes_of, variables_at}
 
 -- a job that has begun and not ended: its message, and the variables that serial handling has before it
 pub record Begun : Type 0 where
@@ -123,25 +123,6 @@ with_end g b r = record r {
   messages = placed (brought b.job.task (passes_of g b)) g.ports r.messages;
   outputs = added (brought b.job.task (passes_of g b)) (output_feeds g) r.outputs;
 }
-
--- the writes of a job that was handled
-unfoldable pub writes_of : List Handled → Job → List Write
-writes_of [] job = []
-writes_of (h ∷ handled) job = if same_job h.item.job job then h.writes else writes_of handled job
-
--- the writes of a tick that went to a job
-unfoldable pub writes_in : List Handled → Ticks → ℕ → Option Job → List Write
-writes_in handled log t None = []
-writes_in handled log t (Some job) = writes_at (done log job t) (writes_of handled job)
-
--- the writes whose own tick is below t, in order of ticks
-unfoldable pub writes_below : List Handled → Ticks → ℕ → List Write
-writes_below handled log zero = []
-writes_below handled log (suc t) = writes_below handled log t ++ writes_in handled log t (tick log t)
-
--- the variables at a tick: those at the start after all writes whose own tick is below it
-abbrev pub variables_at : List ℤ → List Handled → Ticks → ℕ → List ℤ
-variables_at vars handled log t = after_writes (writes_below handled log t) vars
 
 -- a job is under way at a port: it is the port's last that began, and its message has come
 pub record IsUnderWay (g : GraphTree) (s : Serial) (log : Ticks) (vars : List ℤ) (port : ℕ) (b : Begun) : Type 0 where

@@ -15,15 +15,11 @@ use Rattle.yt_serial.specs.PortMessages.{PortMessage}
 use Rattle.yt_serial.specs.SerialHandling.{Handled, Serial, handle_message, handled_along, plan_of_log, start}
 use Rattle.yt_serial.specs.Told.{AllHandled, BeginsInOrder, IsPromisedRun}
 use Rattle.yt_serial.specs.Traces.{KeepsPeriods}
-use Rattle.yt_interleave.specs.Interleaved.{Begun, Moment, first_moment, with_begun, with_idle, variables_at}
+use Rattle.yt_interleave.specs.Interleaved.{Begun, Moment, first_moment, with_begun, with_idle}
+use Rattle.yt_serial.specs.Variables.{variables_at}
 use Rattle.yt_interleave.specs.Moves.{MayBegin, after_tick, begun_of, Interleaves, IsOver}
 use Rattle.yt_interleave.specs.Timing.{GoesWith, IsLegalRun, IsShown}
-
--- a graph and a trace that can be run
-pub record CanRun (g : GraphTree) (trace : List Message) : Type 0 where
-  pub well_formed : IsWellFormed g
-  pub rates : All (IsWithinRates g) g.ports
-  pub keeps : KeepsPeriods g trace
+use Rattle.yt_serial.specs.Laws.{CanRun}
 
 -- before the first tick nothing is handled
 abbrev pub StartsSerial : Type 0
@@ -66,10 +62,6 @@ VariablesAreWritten =
     (g : GraphTree) (trace : List Message) → CanRun g trace → (s : Serial) (r : Moment) → Interleaves g trace s r →
     (more : Ticks) (whole : Serial) → handled_along g trace (r.log ++ more) ≡ Some whole →
     variables_at (start g trace).vars whole.handled (r.log ++ more) (length r.log) ≡ r.vars
-
--- after the end of the log they stay
-abbrev pub VariablesStay : Type 0
-VariablesStay = (vars : List ℤ) (handled : List Handled) (log : Ticks) (t : ℕ) → length log ≤ t → variables_at vars handled log t ≡ variables_at vars handled log (length log)
 
 -- where the graph's tasks fit, and the log is the rule's for a legal plan that goes with the run, it keeps every promise of a run
 abbrev pub EndsArePromised : Type 0

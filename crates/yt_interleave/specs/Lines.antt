@@ -8,11 +8,7 @@ use Rattle.yt_serial.specs.PortMessages.{PortMessage, numbered}
 use Rattle.yt_serial.specs.SerialHandling.{Serial, shown}
 use Rattle.yt_serial.specs.Told.{line_before}
 use Rattle.yt_interleave.specs.Interleaved.{Moment, on_way, added, output_feeds}
-
--- the lines of an output
-abbrev pub lines_of : ℕ → List OutLine → List OutLine
-lines_of n [] = []
-lines_of n (l ∷ lines) = if l.output == n then l ∷ lines_of n lines else lines_of n lines
+use Rattle.yt_serial.specs.Lines.{lines_of, AreInLineOrder}
 
 -- the messages of an output
 abbrev pub messages_to : List (List PortMessage) → ℕ → List PortMessage
@@ -22,11 +18,6 @@ messages_to outputs n = unwrap_or (numbered outputs n) []
 pub record KnowsLines (g : GraphTree) (s : Serial) (r : Moment) : Type 0 where
   pub count : length r.outputs ≡ length g.outputs
   pub lines : (n : ℕ) → lines_of n s.lines ≡ shown n (messages_to (added (on_way g r.active) (output_feeds g) r.outputs) n)
-
--- lines of which none stands before an earlier one
-abbrev pub AreInLineOrder : List OutLine → Type 0
-AreInLineOrder [] = Unit {0}
-AreInLineOrder (l ∷ lines) = ((x : OutLine) → Has lines x → line_before x l ≡ false) × AreInLineOrder lines
 
 -- the messages that come before a tick
 abbrev pub come_before : ℕ → List PortMessage → List PortMessage

@@ -15,9 +15,11 @@ use Rattle.yt_serial.specs.Beginnings.{busy_until}
 use Rattle.yt_serial.specs.PortMessages.{PortMessage, numbered}
 use Rattle.yt_serial.specs.SerialHandling.{Serial, messages_at, handled_of, shown, start, handle_message, handled_along}
 use Rattle.yt_serial.specs.Told.{latest, IsPromisedRun}
-use Rattle.yt_interleave.specs.Interleaved.{Begun, Moment, known_at, whole_of, job_of, first_moment, with_begun, with_idle, variables_at}
-use Rattle.yt_interleave.specs.Laws.{CanRun}
-use Rattle.yt_interleave.specs.Lines.{lines_of, messages_to, AreInLineOrder, come_at, HasShown}
+use Rattle.yt_interleave.specs.Interleaved.{Begun, Moment, known_at, whole_of, job_of, first_moment, with_begun, with_idle}
+use Rattle.yt_serial.specs.Variables.{variables_at}
+use Rattle.yt_serial.specs.Laws.{CanRun}
+use Rattle.yt_serial.specs.Lines.{lines_of, AreInLineOrder}
+use Rattle.yt_interleave.specs.Lines.{messages_to, come_at, HasShown}
 use Rattle.yt_interleave.specs.Moves.{MayBegin, after_tick, begun_of, Interleaves, IsOver}
 use Rattle.yt_interleave.specs.Timing.{HasEnded, IsOnTime, IsPending, IsResourceFree, GoesWith, IsLegalRun}
 

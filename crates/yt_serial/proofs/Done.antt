@@ -28,7 +28,7 @@ newcomer_begun : (log : Ticks) (j : Job) (t : ℕ) → 0 < done log j t → newc
 unfolding newcomer
 newcomer_begun log j t h = cond-false {A = List Job} (eqb (done log j t) 0) (j ∷ []) [] (ne_eqb (done log j t) 0 (λ e. absurd (omega arith)))
 
-begun-suc : (log : Ticks) (t : ℕ) → begun_below log (suc t) ≡ begun_below log t ++ newcomer log t (tick log t)
+pub begun-suc : (log : Ticks) (t : ℕ) → begun_below log (suc t) ≡ begun_below log t ++ newcomer log t (tick log t)
 unfolding begun_below
 begun-suc log t = refl
 

@@ -17,17 +17,17 @@ use Rattle.yt_serial.proofs.SerialRuns.{serial_holds}
 use Rattle.yt_serial.proofs.Spread.{apart_from}
 
 handled : (g : GraphTree) (trace : List Message) (order : List Job) (s : Serial) → IsHandling g trace order s → Holds g s
-handled g trace order s is = serial_holds g is.well_formed is.rates trace is.keeps order s is.along
+handled g trace order s is = serial_holds g is.can.well_formed is.can.rates trace is.can.keeps order s is.along
 
 pub plans_are_legal : PlansAreLegal
 plans_are_legal g trace order s is = sorted_legal (tasks_of g) _ (handled g trace order s is).orderly
 
 pub log_plans_are_legal : LogPlansAreLegal
-log_plans_are_legal g trace log well rates keeps = by (handled_along g trace log) refl
+log_plans_are_legal g trace log can = by (handled_along g trace log) refl
   where
     by : (o : Option Serial) → handled_along g trace log ≡ o → IsLegal (tasks_of g) (option_map_or plan_of o [])
     by None is = tt
-    by (Some s) is = plans_are_legal g trace (order_of log) s (record { well_formed = well; rates = rates; keeps = keeps; along = is })
+    by (Some s) is = plans_are_legal g trace (order_of log) s (record { can = can; along = is })
 
 pub messages_are_apart : MessagesAreApart
 messages_are_apart g trace order s is port p there = apart_from (period_of g p) (messages_at s port) ((handled g trace order s is).spread port p there)

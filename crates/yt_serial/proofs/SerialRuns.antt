@@ -1,21 +1,24 @@
 -- Serial handling along an order, and with one job more.
-use Rattle.std.proofs.Common.{◌≡◌, ℕ, zero, suc, eqb, List, [], ◌∷◌, ◌++◌, length, slice_get, Option, None, Some, All, refl, sym, ap, subst, ◌∙◌, ⊎_elim, eq-eqb}
+use Rattle.std.proofs.Common.{◌≡◌, ℕ, zero, suc, eqb, List, [], ◌∷◌, ◌++◌, length, slice_get, Option, None, Some, All, refl, sym, ap, subst, ◌∙◌, ⊎_elim, eq-eqb, append-nil}
 use Rattle.std.specs.Option.{option_map, option_and_then, unwrap_or}
 use Rattle.std.proofs.lemmas.Bool.{cond-true}
 use Rattle.std.proofs.lemmas.List.{length-map}
 use Rattle.std.proofs.lemmas.Option.{none-some, same_Some, slice_get-map, option_and_then_some}
 use Rattle.yt_graph.specs.declared.port.Feed.TheVariants.{Input, Out}
+use Rattle.yt_graph.specs.declared.port.Feed.{Feed}
+use Rattle.yt_graph.specs.Meaning.{handling}
 use Rattle.yt_graph.specs.Picture.{GraphTree, PortTree}
 use Rattle.yt_graph.specs.WellFormed.{IsWellFormed}
 use Rattle.yt_log.specs.declared.job.Job.{Job}
 use Rattle.yt_rates.specs.Faults.{IsWithinRates}
 use Rattle.yt_rates.specs.Rates.{period_of, input_period, stream_within}
 use Rattle.yt_serial.specs.declared.trace.Message.{Message}
-use Rattle.yt_serial.specs.PortMessages.{PortMessage, numbered, messages_of}
-use Rattle.yt_serial.specs.SerialHandling.{Serial, messages_at, from_outside, no_port, port_of, handle_message, handled_of, message_of, serial_step, serial_run, start}
+use Rattle.yt_serial.specs.Laws.{CanRun}
+use Rattle.yt_serial.specs.PortMessages.{PortMessage, numbered, messages_of, passed}
+use Rattle.yt_serial.specs.SerialHandling.{Serial, messages_at, brought, from_outside, no_port, port_of, handle_message, handled_of, message_of, serial_step, serial_run, start}
 use Rattle.yt_serial.specs.Traces.{KeepsPeriods}
 use Rattle.yt_serial.proofs.SerialInvariant.{Holds, after, holds_after}
-use Rattle.yt_serial.proofs.SerialStates.{port_there, feed_cases, message_there}
+use Rattle.yt_serial.proofs.SerialStates.{placed_at, port_there, feed_cases, message_there}
 use Rattle.yt_serial.proofs.Spread.{IsSpread, spread_from, spread_none}
 
 -- where a step is defined, it handles a message
@@ -44,7 +47,7 @@ module _ (g : GraphTree) (well : IsWellFormed g) (rates : All (IsWithinRates g) 
       option_and_then_some {P = Holds g s'} (serial_run g order) (serial_step g job s) s' h
       (λ x step rest. holds_along order x s' (holds_stepped job s x holds step) rest)
 
-  started : (trace : List Message) (port : ℕ) (p : PortTree) → numbered g.ports port ≡ Some p → messages_at (start g trace) port ≡ from_outside trace p.feed
+  pub started : (trace : List Message) (port : ℕ) (p : PortTree) → numbered g.ports port ≡ Some p → messages_at (start g trace) port ≡ from_outside trace p.feed
   started trace zero p there = absurd (none-some p there)
   started trace (suc k) p there =
       ap (λ (o : Option (List PortMessage)). unwrap_or o []) (slice_get-map (λ (p : PortTree). from_outside trace p.feed) g.ports k ∙ ap (option_map (λ (p : PortTree). from_outside trace p.feed)) there)
@@ -68,6 +71,21 @@ module _ (g : GraphTree) (well : IsWellFormed g) (rates : All (IsWithinRates g) 
   -- what holds of serial handling, however far it has come
   pub serial_holds : (trace : List Message) → KeepsPeriods g trace → (order : List Job) (s : Serial) → serial_run g order (start g trace) ≡ Some s → Holds g s
   serial_holds trace keeps order s h = holds_along order (start g trace) s (holds_started trace keeps) h
+
+module _ (g : GraphTree) (trace : List Message) (can : CanRun g trace) where
+  -- a port that an input feeds keeps its messages
+  pub inputs_stay : (order : List Job) (s t : Serial) → Holds g s → serial_run g order s ≡ Some t → (k : ℕ) (p : PortTree) (i : ℕ) → slice_get g.ports k ≡ Some p → p.feed ≡ Input i → messages_at t (suc k) ≡ messages_at s (suc k)
+  inputs_stay [] s t holds along k p i is feed = ap (λ (x : Serial). messages_at x (suc k)) (sym (same_Some s t along))
+  inputs_stay (job ∷ order) s t holds along k p i is feed =
+      option_and_then_some {P = messages_at t (suc k) ≡ messages_at s (suc k)} (serial_run g order) (serial_step g job s) t along
+      (λ x step rest.
+      let m = stepped g job s x step in
+      let passes : ℕ → List PortMessage = passed g (port_of g job) job.number m.0.time (handling (port_of g job) m.0.values s.vars).sends in
+      inputs_stay order x t (holds_stepped g can.well_formed can.rates job s x holds step) rest k p i is feed
+      ∙ ap (λ (y : Serial). messages_at y (suc k)) (sym m.2)
+      ∙ placed_at (brought job.task passes) g.ports s.messages k p holds.long is
+      ∙ ap (λ (f : Feed). messages_at s (suc k) ++ brought job.task passes f) feed
+      ∙ append-nil (messages_at s (suc k)))
 
 -- one job more
 pub run_push : (g : GraphTree) (order : List Job) (job : Job) (a s t : Serial) → serial_run g order a ≡ Some s → serial_step g job s ≡ Some t → serial_run g (order ++ job ∷ []) a ≡ Some t

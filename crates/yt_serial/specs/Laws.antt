@@ -1,5 +1,5 @@
 -- What is proved of serial handling.
-use Rattle.std.specs.Prelude.{◌≡◌, ℕ, List, All, Some}
+use Rattle.std.specs.Prelude.{◌≡◌, ℕ, ◌≤◌, ℤ, List, All, length, Some}
 use Rattle.std.specs.Option.{ForSome}
 use Rattle.yt_graph.specs.Picture.{GraphTree}
 use Rattle.yt_graph.specs.WellFormed.{IsWellFormed}
@@ -11,14 +11,19 @@ use Rattle.yt_rates.specs.Rates.{period_of}
 use Rattle.yt_rates.specs.Tables.{tasks_of}
 use Rattle.yt_serial.specs.declared.trace.Message.{Message}
 use Rattle.yt_serial.specs.PortMessages.{numbered, AreApart}
-use Rattle.yt_serial.specs.SerialHandling.{Serial, messages_at, start, serial_run, plan_of, plan_of_log}
+use Rattle.yt_serial.specs.SerialHandling.{Handled, Serial, messages_at, start, serial_run, plan_of, plan_of_log}
 use Rattle.yt_serial.specs.Traces.{KeepsPeriods}
+use Rattle.yt_serial.specs.Variables.{variables_at}
 
--- serial handling comes this far on a trace that keeps the graph's periods, where the graph is well formed and its rates are within their limits
-pub record IsHandling (g : GraphTree) (trace : List Message) (order : List Job) (s : Serial) : Type 0 where
+-- a graph and a trace that can be run: the graph is well formed, its rates are within their limits, and the trace keeps its periods
+pub record CanRun (g : GraphTree) (trace : List Message) : Type 0 where
   pub well_formed : IsWellFormed g
   pub rates : All (IsWithinRates g) g.ports
   pub keeps : KeepsPeriods g trace
+
+-- serial handling comes this far on a trace
+pub record IsHandling (g : GraphTree) (trace : List Message) (order : List Job) (s : Serial) : Type 0 where
+  pub can : CanRun g trace
   pub along : serial_run g order (start g trace) ≡ Some s
 
 -- along each order on which it is defined, serial handling makes a legal plan for the graph's tasks
@@ -27,11 +32,14 @@ PlansAreLegal = (g : GraphTree) (trace : List Message) (order : List Job) (s : S
 
 -- so the plan of each log is legal
 abbrev pub LogPlansAreLegal : Type 0
-LogPlansAreLegal =
-    (g : GraphTree) (trace : List Message) (log : Ticks) → IsWellFormed g → All (IsWithinRates g) g.ports → KeepsPeriods g trace → IsLegal (tasks_of g) (plan_of_log g trace log)
+LogPlansAreLegal = (g : GraphTree) (trace : List Message) (log : Ticks) → CanRun g trace → IsLegal (tasks_of g) (plan_of_log g trace log)
 
 -- and the messages at each port, handled or not, are at least its period apart
 abbrev pub MessagesAreApart : Type 0
 MessagesAreApart =
     (g : GraphTree) (trace : List Message) (order : List Job) (s : Serial) → IsHandling g trace order s →
     (port : ℕ) → ForSome (numbered g.ports port) (λ p. AreApart (period_of g p) (messages_at s port))
+
+-- after the end of a log the variables stay
+abbrev pub VariablesStay : Type 0
+VariablesStay = (vars : List ℤ) (handled : List Handled) (log : Ticks) (t : ℕ) → length log ≤ t → variables_at vars handled log t ≡ variables_at vars handled log (length log)

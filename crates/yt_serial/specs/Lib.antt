@@ -3,4 +3,7 @@ pub mod Traces
 pub mod Beginnings
 pub mod SerialHandling
 pub mod Told
+pub mod Lines
+pub mod Variables
+pub mod Bounds
 pub mod Laws

@@ -1,6 +1,7 @@
 //! Laws of the definitions.
 
-ghost use Rattle.yt_serial.specs.Laws.{LogPlansAreLegal, MessagesAreApart, PlansAreLegal};
+ghost use Rattle.yt_serial.specs.Bounds.{MessagesAreBounded};
+ghost use Rattle.yt_serial.specs.Laws.{LogPlansAreLegal, MessagesAreApart, PlansAreLegal, VariablesStay};
 
 /// Along each order on which it is defined, serial handling makes a legal plan for the graph's tasks.
 pub fn plans_are_legal()
@@ -15,4 +16,14 @@ pub fn log_plans_are_legal()
 /// In serial handling the messages at each port are at least its period apart.
 pub fn messages_are_apart()
     ensures { MessagesAreApart }
+{}
+
+/// Each port handles at most so many messages, and each output shows at most so many, by the chain of sources.
+pub fn messages_are_bounded()
+    ensures { MessagesAreBounded }
+{}
+
+/// After the end of a log the variables stay as its last tick left them.
+pub fn variables_stay()
+    ensures { VariablesStay }
 {}

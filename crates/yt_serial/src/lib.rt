@@ -11,6 +11,8 @@ mod laws;
 mod shown;
 mod trace;
 
-pub use laws::{log_plans_are_legal, messages_are_apart, plans_are_legal};
+pub use laws::{
+    log_plans_are_legal, messages_are_apart, messages_are_bounded, plans_are_legal, variables_stay,
+};
 pub use shown::{OutLine, Outs};
 pub use trace::{Message, Trace};

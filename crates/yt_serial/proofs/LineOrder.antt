@@ -5,7 +5,7 @@ use Rattle.yt_log.specs.Order.{insert_by, sort_by}
 use Rattle.yt_log.specs.Tasks.{Has}
 use Rattle.yt_serial.specs.declared.shown.OutLine.{OutLine}
 use Rattle.yt_serial.specs.Told.{line_before}
-use Rattle.yt_interleave.specs.Lines.{lines_of, AreInLineOrder}
+use Rattle.yt_serial.specs.Lines.{lines_of, AreInLineOrder}
 
 -- a line comes before another by its time, and then by its output
 before_parts : (a b : OutLine) → line_before a b ≡ true → (a.time < b.time) ⊎ ((a.time ≡ b.time) × (a.output < b.output))

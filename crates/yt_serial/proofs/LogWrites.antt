@@ -1,5 +1,5 @@
 -- A log with one tick more, and what its ticks write.
-use Rattle.std.proofs.Common.{◌≡◌, ◌⊎◌, ℕ, zero, suc, ◌<◌, ◌≤◌, true, false, cond, List, [], ◌∷◌, ◌++◌, length, Option, None, Some, refl, sym, ap, ap₂, subst, ◌∙◌, inl, inr, ⊎_elim, arith}
+use Rattle.std.proofs.Common.{◌≡◌, ◌⊎◌, ℕ, zero, suc, ◌+◌, ◌-◌, ◌<◌, ◌≤◌, true, false, cond, List, [], ◌∷◌, ◌++◌, length, Option, None, Some, refl, sym, ap, ap₂, subst, ◌∙◌, inl, inr, ⊎_elim, arith, append-nil}
 use Rattle.std.proofs.lemmas.Bool.{cases_eq, cases_lt, cases_Bool, cond-true, cond-false, false_from_ne_true, both_ways}
 use Rattle.std.proofs.lemmas.List.{length-append, get_or_push, get_or_past}
 use Rattle.std.proofs.lemmas.Option.{none-some}
@@ -10,10 +10,10 @@ use Rattle.yt_log.specs.Tasks.{Has}
 use Rattle.yt_log.specs.Ticks.{Ticks, tick, done}
 use Rattle.yt_log.proofs.Jobs.{same_job_true, same_job_refl}
 use Rattle.yt_log.proofs.Ticks.{done_yes, done_no, done_grows}
+use Rattle.yt_serial.specs.Laws.{VariablesStay}
 use Rattle.yt_serial.specs.SerialHandling.{Handled}
-use Rattle.yt_serial.proofs.Lemmas.{Agree, agree_append, done_same, done-append}
-use Rattle.yt_interleave.specs.Handlers.{writes_at}
-use Rattle.yt_interleave.specs.Interleaved.{writes_of, writes_in, writes_below}
+use Rattle.yt_serial.proofs.Prefix.{Agree, agree_append, done_same, done-append}
+use Rattle.yt_serial.specs.Variables.{after_writes, writes_at, writes_of, writes_in, writes_below}
 
 pub writes_below-suc : (handled : List Handled) (log : Ticks) (t : ℕ) → writes_below handled log (suc t) ≡ writes_below handled log t ++ writes_in handled log t (tick log t)
 unfolding writes_below
@@ -136,3 +136,21 @@ module _ (log : Ticks) (o : Option Job) where
       ∙ ap₂ (λ (xs ys : List Write). xs ++ ys)
       (writes_below_same handled (log ++ o ∷ []) log (length log) (agree_append log (o ∷ []) (length log) (omega arith)))
       (ap (writes_in handled (log ++ o ∷ []) (length log)) tick_last ∙ writes_in_same handled (log ++ o ∷ []) log (length log) o (agree_append log (o ∷ []) (length log) (omega arith)))
+
+none_past : (log : Ticks) (t : ℕ) → length log ≤ t → tick log t ≡ None
+unfolding tick
+none_past log t le = get_or_past log t None le
+
+writes_past : (handled : List Handled) (log : Ticks) (n : ℕ) → writes_below handled log (length log + n) ≡ writes_below handled log (length log)
+writes_past handled log zero = ap (writes_below handled log) (omega arith)
+writes_past handled log (suc n) =
+    ap (writes_below handled log) (omega arith)
+    ∙ writes_below-suc handled log (length log + n)
+    ∙ ap (λ (ws : List Write). writes_below handled log (length log + n) ++ ws) (ap (writes_in handled log (length log + n)) (none_past log (length log + n) (omega arith)) ∙ writes_in_idle handled log (length log + n))
+    ∙ append-nil (writes_below handled log (length log + n))
+    ∙ writes_past handled log n
+
+pub variables_stay : VariablesStay
+variables_stay vars handled log t le =
+    let e : t ≡ length log + (t - length log) = omega arith in
+    ap (λ (ws : List Write). after_writes ws vars) (ap (writes_below handled log) e ∙ writes_past handled log (t - length log))

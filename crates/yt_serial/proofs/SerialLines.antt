@@ -26,9 +26,13 @@ use Rattle.yt_serial.specs.declared.trace.Message.{Message}
 use Rattle.yt_serial.specs.PortMessages.{PortMessage, numbered, spaced, passed}
 use Rattle.yt_serial.specs.SerialHandling.{Handled, Serial, messages_at, items_of, handled_of, start, brought, shown, all_shown, no_port, port_of, serial_step, serial_run}
 use Rattle.yt_serial.specs.Traces.{KeepsPeriods}
-use Rattle.yt_serial.proofs.Lemmas.{spaced_within, next_multiple, ComesOf, Holds, after, placed_at, port_there, BringsOf, brings, message_there, numbered_left, numbered_far, stepped, holds_stepped, serial_holds}
-use Rattle.yt_interleave.specs.Lines.{lines_of}
-use Rattle.yt_interleave.proofs.Sorting.{TimesRise, lines_same, lines_other}
+use Rattle.yt_serial.proofs.Sends.{spaced_within, next_multiple}
+use Rattle.yt_serial.proofs.SerialInvariant.{ComesOf, Holds, after}
+use Rattle.yt_serial.proofs.SerialStates.{placed_at, port_there, BringsOf, brings, message_there}
+use Rattle.yt_serial.proofs.Spread.{numbered_left, numbered_far}
+use Rattle.yt_serial.proofs.SerialRuns.{stepped, holds_stepped, serial_holds}
+use Rattle.yt_serial.proofs.LineOrder.{TimesRise, lines_same, lines_other}
+use Rattle.yt_serial.specs.Lines.{lines_of}
 
 -- the lines of an output among lines one behind another
 pub lines_append : (n : ℕ) (xs ys : List OutLine) → lines_of n (xs ++ ys) ≡ lines_of n xs ++ lines_of n ys

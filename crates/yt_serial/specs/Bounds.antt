@@ -11,8 +11,8 @@ use Rattle.yt_rates.specs.Rates.{every_of}
 use Rattle.yt_serial.specs.declared.trace.Message.{Message}
 use Rattle.yt_serial.specs.PortMessages.{numbered, messages_of}
 use Rattle.yt_serial.specs.SerialHandling.{Serial, messages_at, handled_of, start, serial_run}
-use Rattle.yt_interleave.specs.Laws.{CanRun}
-use Rattle.yt_interleave.specs.Lines.{lines_of}
+use Rattle.yt_serial.specs.Laws.{CanRun}
+use Rattle.yt_serial.specs.Lines.{lines_of}
 
 -- the most messages that an out passes on for so many messages at its port
 abbrev pub passed_most : PortTree → ℕ → ℕ → ℕ

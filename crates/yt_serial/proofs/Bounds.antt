@@ -24,14 +24,14 @@ use Rattle.yt_log.proofs.Appends.{jobs_none, jobs_push_same, jobs_push_other}
 use Rattle.yt_rates.specs.Rates.{every_of, period_of, gap_of}
 use Rattle.yt_serial.specs.declared.trace.Message.{Message}
 use Rattle.yt_serial.specs.PortMessages.{PortMessage, numbered, messages_of, spaced, passed}
-use Rattle.yt_serial.specs.SerialHandling.{Handled, Serial, messages_at, items_of, handled_of, from_outside, brought, shown, all_shown, start, no_port, port_of, handle_message, message_of, serial_step, serial_run}
-use Rattle.yt_serial.proofs.Lemmas.{Holds, placed_at, BringsOf, brings, message_there, stepped, holds_stepped, serial_holds}
-use Rattle.yt_interleave.specs.Bounds.{passed_most, most_within, most_at, MessagesAreBounded}
-use Rattle.yt_interleave.specs.Laws.{CanRun}
-use Rattle.yt_interleave.specs.Lines.{lines_of}
-use Rattle.yt_interleave.proofs.Determined.{from_start}
-use Rattle.yt_interleave.proofs.SerialLines.{lines_append, all_at}
-use Rattle.yt_interleave.proofs.Waits.{inputs_stay}
+use Rattle.yt_serial.specs.SerialHandling.{Handled, Serial, messages_at, items_of, handled_of, from_outside, brought, placed, shown, all_shown, start, no_port, port_of, handle_message, message_of, serial_step, serial_run}
+use Rattle.yt_serial.proofs.SerialInvariant.{Holds}
+use Rattle.yt_serial.proofs.SerialStates.{placed_at, BringsOf, brings, message_there}
+use Rattle.yt_serial.proofs.SerialRuns.{stepped, holds_stepped, serial_holds, inputs_stay}
+use Rattle.yt_serial.proofs.SerialLines.{lines_append, all_at}
+use Rattle.yt_serial.specs.Bounds.{passed_most, most_within, most_at, MessagesAreBounded}
+use Rattle.yt_serial.specs.Laws.{CanRun}
+use Rattle.yt_serial.specs.Lines.{lines_of}
 
 div_le : (a b e : ℕ) → 1 ≤ e → a ≤ b → a / e ≤ b / e
 div_le a b e some le =
@@ -94,8 +94,22 @@ shown-length : (n : ℕ) (ms : List PortMessage) → length (shown n ms) ≡ len
 shown-length n [] = refl
 shown-length n (m ∷ ms) = ap suc (shown-length n ms)
 
--- no more messages than their source has passed on
+-- what serial handling adds shortens no port's messages
+messages_grow : (adds : Feed → List PortMessage) (ports : List PortTree) (messages : List (List PortMessage)) (k : ℕ) → length messages ≡ length ports
+    → length (unwrap_or (slice_get messages k) []) ≤ length (unwrap_or (slice_get (placed adds ports messages) k) [])
+messages_grow adds [] [] k long = omega arith
+messages_grow adds [] (before ∷ messages) k long = absurd (omega arith)
+messages_grow adds (p ∷ ports) [] k long = absurd (omega arith)
+messages_grow adds (p ∷ ports) (before ∷ messages) zero long = let l = length-append before (adds p.feed) in omega arith
+messages_grow adds (p ∷ ports) (before ∷ messages) (suc k) long = messages_grow adds ports messages k (omega arith)
+
+numbered_within : (ms : List PortMessage) (n : ℕ) (m : PortMessage) → numbered ms n ≡ Some m → n ≤ length ms
+numbered_within ms zero m e = omega arith
+numbered_within ms (suc n) m e = let k = slice_get_within ms n m e in omega arith
+
+-- no port has handled more messages than it has, and no more messages came than their source has passed on
 pub record IsBounded (g : GraphTree) (s : Serial) : Type 0 where
+  pub handled : (port : ℕ) → handled_of s port ≤ length (messages_at s port)
   pub ports : (k : ℕ) (p : PortTree) (from out : ℕ) (q : PortTree) → slice_get g.ports k ≡ Some p → p.feed ≡ Out from out → numbered g.ports from ≡ Some q →
       length (messages_at s (suc k)) ≤ passed_most q out (handled_of s from)
   pub outputs : (k : ℕ) (o : Output) (q : PortTree) → slice_get g.outputs k ≡ Some o → numbered g.ports o.port ≡ Some q →
@@ -161,8 +175,31 @@ module _ (g : GraphTree) (trace : List Message) (can : CanRun g trace) where
         omega arith)
         (brings g (port_of g job) job.task job.number m.time h.sends (Out from out))
 
+    messages_stay : (port : ℕ) → length (messages_at s port) ≤ length (messages_at (handle_message g job m s) port)
+    messages_stay zero = omega arith
+    messages_stay (suc k) = messages_grow (brought job.task passes) g.ports s.messages k holds.long
+
+    handled_after : (port : ℕ) → handled_of (handle_message g job m s) port ≤ length (messages_at (handle_message g job m s) port)
+    handled_after port =
+        let more = messages_stay port in
+        let before = bounded.handled port in
+        ⊎_elim
+        (λ (e : job.task ≡ port).
+        let count = handled_same port e in
+        let there = message_there job s m next in
+        let within = numbered_within (messages_at s job.task) job.number m there.1 in
+        let same : length (messages_at s job.task) ≡ length (messages_at s port) = ap (λ (n : ℕ). length (messages_at s n)) e in
+        let all : handled_of s job.task ≡ handled_of s port = ap (handled_of s) e in
+        let number = there.0 in
+        omega arith)
+        (λ (ne : job.task ≡ port → ⊥).
+        let count = ap (jobs_of port) items_after ∙ jobs_push_other port (items_of s) (record { job = job; arrival = m.time; cost = h.ticks }) ne in
+        omega arith)
+        (cases_eq job.task port)
+
     bounded_after : IsBounded g (handle_message g job m s)
     bounded_after = record {
+      handled = handled_after;
       ports = λ k p from out q is fed at_q.
           let new = brought job.task passes p.feed in
           let here : messages_at (handle_message g job m s) (suc k) ≡ messages_at s (suc k) ++ new = placed_at (brought job.task passes) g.ports s.messages k p holds.long is in
@@ -199,26 +236,13 @@ module _ (g : GraphTree) (trace : List Message) (can : CanRun g trace) where
     holds : Holds g s
     holds = serial_holds g can.well_formed can.rates trace can.keeps order s along
 
-    handled_le : (port : ℕ) → handled_of s port ≤ length (messages_at s port)
-    handled_le port =
-        ⊎_elim
-        (λ (e : handled_of s port ≡ 0). omega arith)
-        (λ (ne : handled_of s port ≡ 0 → ⊥).
-        let z = (from_start g trace can order s along).numbers (λ p k some le. absurd (let n = jobs_none p in omega arith)) port (handled_of s port) (omega arith) (omega arith) in
-        let of = holds.items z.0 z.1 in
-        within (messages_at s port) (handled_of s port) of.message (ap (λ (j : Job). numbered (messages_at s j.task) j.number) (sym z.2) ∙ of.there))
-        (cases_eq (handled_of s port) 0)
-      where
-        within : (ms : List PortMessage) (n : ℕ) (m : PortMessage) → numbered ms n ≡ Some m → n ≤ length ms
-        within ms zero m e = omega arith
-        within ms (suc n) m e = let k = slice_get_within ms n m e in omega arith
-
     first_at : (k : ℕ) (p : PortTree) → slice_get g.ports k ≡ Some p → messages_at (start g trace) (suc k) ≡ from_outside trace p.feed
     first_at k p is =
         ap (λ (o : Option (List PortMessage)). unwrap_or o []) (slice_get-map (λ (p : PortTree). from_outside trace p.feed) g.ports k ∙ ap (option_map (λ (p : PortTree). from_outside trace p.feed)) is)
 
     first_bounded : IsBounded g (start g trace)
     first_bounded = record {
+      handled = λ port. let none = jobs_none port in omega arith;
       ports = λ k p from out q is fed at_q.
           let none : length (messages_at (start g trace) (suc k)) ≡ 0 = ap length (first_at k p is ∙ ap (from_outside trace) fed) in
           omega arith;
@@ -227,6 +251,9 @@ module _ (g : GraphTree) (trace : List Message) (can : CanRun g trace) where
 
     bounded : IsBounded g s
     bounded = bounded_along order (start g trace) s first_holds first_bounded along
+
+    handled_le : (port : ℕ) → handled_of s port ≤ length (messages_at s port)
+    handled_le = bounded.handled
 
     passed_more : (from out : ℕ) (q : PortTree) → numbered g.ports from ≡ Some q → (a b : ℕ) → a ≤ b → passed_most q out a ≤ passed_most q out b
     passed_more from out q at_q a b le =
