@@ -22,11 +22,13 @@ use Rattle.yt_serial.specs.PortMessages.{PortMessage, numbered}
 use Rattle.yt_serial.specs.SerialHandling.{Handled, Serial, messages_at, items_of, handled_of, brought, placed, start, handle_message, serial_step}
 use Rattle.yt_serial.specs.Traces.{KeepsPeriods}
 use Rattle.yt_serial.proofs.Lemmas.{Holds, placed_at, port_there, numbered_left, serial_holds, run_push, step_of, writes_of_push_other, writes_of_push_same, writes_below_more}
-use Rattle.yt_interleave.specs.Interleaved.{Begun, Moment, port_at, group_at, Uses, value_at, item_of, passes_of, known_at, put, on_way, with_begun, IsUnderWay, IsInUse, IsEndedOrActive, job_of, StandsFor}
+use Rattle.yt_interleave.specs.Interleaved.{Begun, Moment, port_at, group_at, Uses, value_at, item_of, passes_of, known_at, put, on_way, with_begun, IsUnderWay, IsInUse, IsEndedOrActive, StandsFor}
+use Rattle.yt_serial.specs.Beginnings.{nth_job}
 use Rattle.yt_serial.specs.Variables.{after_writes}
 use Rattle.yt_interleave.specs.Moves.{MayBegin}
 use Rattle.yt_interleave.proofs.HandlerWrites.{IsWritten, handling_written, written_none, after_writes-length, kept_after, kept_or_written}
-use Rattle.yt_interleave.proofs.Pieces.{put_same, put_other, put_cases, has_left, has_last, placed_twice, on_way_begun}
+use Rattle.yt_interleave.proofs.Pieces.{put_same, put_other, put_cases, placed_twice, on_way_begun}
+use Rattle.yt_log.proofs.Members.{has_left, has_last}
 use Rattle.yt_interleave.proofs.Sharing.{shared}
 
 has_item : (hs : List Handled) (z : Handled) → Has hs z → Has (map (λ (h : Handled). h.item) hs) z.item
@@ -34,8 +36,8 @@ has_item [] z h = absurd h
 has_item (x ∷ hs) z h =
     ⊎_elim (λ (e : z ≡ x). inl (ap (λ (y : Handled). y.item) e)) (λ (k : Has hs z). inr (has_item hs z k)) h
 
-same_job_parts : (j : Job) (port k : ℕ) → j.task ≡ port → j.number ≡ k → j ≡ job_of port k
-same_job_parts j port k e f = ap (λ (n : ℕ). job_of n j.number) e ∙ ap (job_of port) f
+same_job_parts : (j : Job) (port k : ℕ) → j.task ≡ port → j.number ≡ k → j ≡ nth_job port k
+same_job_parts j port k e f = ap (λ (n : ℕ). nth_job n j.number) e ∙ ap (nth_job port) f
 
 module _ (g : GraphTree) (well : IsWellFormed g) (rates : All (IsWithinRates g) g.ports) (trace : List Message) (keeps : KeepsPeriods g trace)
     (order : List Job) (s : Serial) (r : Moment) (stands : StandsFor g trace order s r) where
@@ -275,7 +277,7 @@ module _ (g : GraphTree) (well : IsWellFormed g) (rates : All (IsWithinRates g) 
         (has_cases y has_y))
         (has_cases x has_x)
 
-    all_after : (port k : ℕ) → 1 ≤ k → k ≤ handled_of s' port → (z : PlanItem) × (Has (items_of s') z) × (z.job ≡ job_of port k) × (1 ≤ z.cost)
+    all_after : (port k : ℕ) → 1 ≤ k → k ≤ handled_of s' port → (z : PlanItem) × (Has (items_of s') z) × (z.job ≡ nth_job port k) × (1 ≤ z.cost)
     all_after port k some le =
         ⊎_elim
         (λ (e : job.task ≡ port).
@@ -289,7 +291,7 @@ module _ (g : GraphTree) (well : IsWellFormed g) (rates : All (IsWithinRates g) 
         (λ (ne : job.task ≡ port → ⊥). let count = handled_other port ne in old (stands.all port k some (omega arith)))
         (cases_eq job.task port)
       where
-        old : (z : PlanItem) × (Has (items_of s) z) × (z.job ≡ job_of port k) × (1 ≤ z.cost) → (z : PlanItem) × (Has (items_of s') z) × (z.job ≡ job_of port k) × (1 ≤ z.cost)
+        old : (z : PlanItem) × (Has (items_of s) z) × (z.job ≡ nth_job port k) × (1 ≤ z.cost) → (z : PlanItem) × (Has (items_of s') z) × (z.job ≡ nth_job port k) × (1 ≤ z.cost)
         old (z, has, is, cost) = (z, has_before z has, is, cost)
 
     pub begun : StandsFor g trace (order ++ job ∷ []) s' r'

@@ -23,7 +23,8 @@ use Rattle.yt_interleave.specs.Executives.{HasLeft, GoesOnAs, ExecutivesTick}
 use Rattle.yt_interleave.specs.Interleaved as own
 use Rattle.yt_interleave.specs.Interleaved.{Begun, whole_of, with_begun, with_idle}
 use Rattle.yt_interleave.specs.Moves.{after_tick, begun_of}
-use Rattle.yt_interleave.specs.Runs.{IsRunnable, IsRunning}
+use Rattle.yt_serial.specs.Judged.{IsRunnable}
+use Rattle.yt_interleave.specs.Runs.{IsRunning}
 use Rattle.yt_interleave.specs.Timing.{IsPending, IsLegalRun}
 use Rattle.yt_interleave.proofs.Executives.{executives_follow}
 use Rattle.yt_interleave.proofs.NextJobs.{next_job}

@@ -24,15 +24,17 @@ use Rattle.yt_serial.specs.PortMessages.{PortMessage, numbered}
 use Rattle.yt_serial.specs.SerialHandling.{Serial, messages_at, items_of, handled_of, no_port}
 use Rattle.yt_interleave.specs.Executives.{HasLeft, AllPlaced, ExecutivesFollow}
 use Rattle.yt_interleave.specs.Interleaved as own
-use Rattle.yt_interleave.specs.Interleaved.{Begun, port_at, group_at, known_at, on_way, put, whole_of, item_of, job_of, with_begun, with_tick, with_end}
+use Rattle.yt_interleave.specs.Interleaved.{Begun, port_at, group_at, known_at, on_way, put, whole_of, item_of, with_begun, with_tick, with_end}
+use Rattle.yt_serial.specs.Beginnings.{nth_job}
 use Rattle.yt_interleave.specs.Moves.{MayBegin, after_tick, begun_of, IsOver}
-use Rattle.yt_interleave.specs.Runs.{IsRunnable, IsRunning}
+use Rattle.yt_serial.specs.Judged.{IsRunnable}
+use Rattle.yt_interleave.specs.Runs.{IsRunning}
 use Rattle.yt_interleave.specs.Timing.{IsPending, IsResourceFree}
-use Rattle.yt_serial.proofs.Lemmas.{done_this}
+use Rattle.yt_serial.proofs.Lemmas.{done_this, port_task}
 use Rattle.yt_interleave.proofs.Over.{on_way_none}
 use Rattle.yt_interleave.proofs.Pieces.{placed_none, put_same}
 use Rattle.yt_interleave.proofs.Steps.{after_last, after_other}
-use Rattle.yt_interleave.proofs.Timing.{serial, port_task}
+use Rattle.yt_interleave.proofs.Timing.{serial}
 
 -- whether an item has begun, by its entry
 entry_begun : (tasks : List Task) (log : Ticks) (z : PlanItem) → (entry_of tasks log z).begun ≡ true → 0 < done log z.job (length log)
@@ -160,7 +162,7 @@ module _ (g : GraphTree) (trace : List Message) (able : IsRunnable g trace) (s :
           (λ (ge : z.0.cost ≤ done r.log z.0.job (length r.log)).
           let y = st.named z.0.job (omega arith) in
           let h = (holds.items y.0 y.1).handled in
-          let job : y.0.job ≡ job_of port (length (known_at r port)) = y.2 ∙ z.2 in
+          let job : y.0.job ≡ nth_job port (length (known_at r port)) = y.2 ∙ z.2 in
           let number : y.0.job.number ≡ length (known_at r port) = ap (λ (j : Job). j.number) job in
           let count : handled_of s y.0.job.task ≡ handled_of s port = ap (λ (j : Job). handled_of s j.task) job in
           omega arith)

@@ -21,8 +21,11 @@ use Rattle.yt_serial.specs.PortMessages.{PortMessage, numbered}
 use Rattle.yt_serial.specs.SerialHandling.{Serial}
 use Rattle.yt_interleave.specs.Interleaved as own
 use Rattle.yt_interleave.specs.Interleaved.{known_at}
-use Rattle.yt_interleave.specs.Runs.{IsRunnable, IsRunning}
-use Rattle.yt_interleave.proofs.Timing.{known_port, known_first, apart, port_task, period_some, number_before, number_some}
+use Rattle.yt_serial.specs.Judged.{IsRunnable}
+use Rattle.yt_interleave.specs.Runs.{IsRunning}
+use Rattle.yt_interleave.proofs.Timing.{known_port, known_first, apart, period_some, number_before, number_some}
+use Rattle.yt_serial.proofs.Lemmas.{port_task}
+use Rattle.yt_serial.specs.Beginnings.{nth_job}
 
 -- no item has a greater number than its task has items
 number_le : (tasks : List Task) (before items : List PlanItem) → IsLegalAfter tasks before items → (z : PlanItem) → Has items z → z.job.number ≤ jobs_of z.job.task before + jobs_of z.job.task items
@@ -45,7 +48,7 @@ number_le tasks before (x ∷ items) legal z has =
 -- the last release of a task after the items of a legal plan: it has as its number how many there are, and is that of the item
 record IsLastOf (task : ℕ) (count : ℕ) (items : List PlanItem) (last result : Release) : Type 0 where
   number : result.number ≡ count
-  item : ((jobs_of task items ≡ 0) × (result ≡ last)) ⊎ ((z : PlanItem) × (Has items z) × (z.job ≡ own.job_of task result.number) × (z.arrival ≡ result.arrival))
+  item : ((jobs_of task items ≡ 0) × (result ≡ last)) ⊎ ((z : PlanItem) × (Has items z) × (z.job ≡ nth_job task result.number) × (z.arrival ≡ result.arrival))
 
 last-cons : (last : Release) (task : ℕ) (x : PlanItem) (items : List PlanItem)
     → last_release last task (x ∷ items) ≡ last_release (cond (eqb x.job.task task) (record { number = x.job.number; arrival = x.arrival }) last) task items
@@ -81,8 +84,8 @@ last_of tasks before (x ∷ items) last task legal is =
           (λ (k : (jobs_of task items ≡ 0) × (last_release new task items ≡ new)).
           let rn = ap (λ (r : Release). r.number) k.1 in
           let ra = ap (λ (r : Release). r.arrival) k.1 in
-          inr (x, inl refl, ap (λ (t : ℕ). own.job_of t x.job.number) e ∙ ap (own.job_of task) (sym rn), sym ra))
-          (λ (k : (z : PlanItem) × (Has items z) × (z.job ≡ own.job_of task (last_release new task items).number) × (z.arrival ≡ (last_release new task items).arrival)).
+          inr (x, inl refl, ap (λ (t : ℕ). nth_job t x.job.number) e ∙ ap (nth_job task) (sym rn), sym ra))
+          (λ (k : (z : PlanItem) × (Has items z) × (z.job ≡ nth_job task (last_release new task items).number) × (z.arrival ≡ (last_release new task items).arrival)).
           inr (k.0, inr k.1, k.2, k.3))
           rest.item;
     }))
@@ -97,7 +100,7 @@ last_of tasks before (x ∷ items) last task legal is =
       number = omega arith;
       item = ⊎_elim
           (λ (k : (jobs_of task items ≡ 0) × (last_release last task items ≡ last)). inl (omega arith, k.1))
-          (λ (k : (z : PlanItem) × (Has items z) × (z.job ≡ own.job_of task (last_release last task items).number) × (z.arrival ≡ (last_release last task items).arrival)).
+          (λ (k : (z : PlanItem) × (Has items z) × (z.job ≡ nth_job task (last_release last task items).number) × (z.arrival ≡ (last_release last task items).arrival)).
           inr (k.0, inr k.1, k.2, k.3))
           rest.item;
     }))
@@ -114,7 +117,7 @@ module _ (g : GraphTree) (trace : List Message) (able : IsRunnable g trace) (s :
   is_last = last_of (tasks_of g) [] wider no_release port legal (sym (jobs_none port))
 
   -- the item of the last release, where there is one, is of a message that came a period ago or more
-  last_item : (z : PlanItem) → Has wider z → z.job ≡ own.job_of port (last_release no_release port wider).number
+  last_item : (z : PlanItem) → Has wider z → z.job ≡ nth_job port (last_release no_release port wider).number
       → ((last_release no_release port wider).number < n) × (z.arrival + period_of g (known_port g trace able.can s r is.interleaves port n m there).0 ≤ length r.log)
   last_item z has job =
       let p = known_port g trace able.can s r is.interleaves port n m there in
@@ -152,7 +155,7 @@ module _ (g : GraphTree) (trace : List Message) (able : IsRunnable g trace) (s :
       let low : (last_release no_release port wider).number < n =
       ⊎_elim
       (λ (k : (jobs_of port wider ≡ 0) × (last_release no_release port wider ≡ no_release)). let e = k.0 in omega arith)
-      (λ (k : (z : PlanItem) × (Has wider z) × (z.job ≡ own.job_of port (last_release no_release port wider).number) × (z.arrival ≡ (last_release no_release port wider).arrival)). (last_item k.0 k.1 k.2).0)
+      (λ (k : (z : PlanItem) × (Has wider z) × (z.job ≡ nth_job port (last_release no_release port wider).number) × (z.arrival ≡ (last_release no_release port wider).arrival)). (last_item k.0 k.1 k.2).0)
       is_last.item in
       let high : n ≤ (last_release no_release port wider).number + 1 =
       ⊎_elim
@@ -174,7 +177,7 @@ module _ (g : GraphTree) (trace : List Message) (able : IsRunnable g trace) (s :
 pub next_job : (g : GraphTree) (trace : List Message) → IsRunnable g trace → (s : Serial) (r : own.Moment) (plan : List PlanItem) (lines : List OutLine)
     → IsRunning g trace s r (length r.log) plan lines → (moment : Moment) (left : Job → ℕ) (wider : List PlanItem) → moment.tasks ≡ tasks_of g → StandsFor moment left wider r.log
     → IsLegal (tasks_of g) wider → (port n : ℕ) (m : PortMessage) → numbered (known_at r port) n ≡ Some m → m.time ≡ length r.log
-    → ((z : PlanItem) → Has plan z → Has wider z) → ((z : PlanItem) → Has wider z → z.job.task ≡ port → Has plan z) → IsNextJob moment (own.job_of port n)
+    → ((z : PlanItem) → Has plan z → Has wider z) → ((z : PlanItem) → Has wider z → z.job.task ≡ port → Has plan z) → IsNextJob moment (nth_job port n)
 next_job g trace able s r plan lines is moment left wider tasks stands legal port n m there now into back =
     let p = known_port g trace able.can s r is.interleaves port n m there in
     let range = port_task g port p.0 p.1 in
@@ -189,7 +192,7 @@ next_job g trace able s r plan lines is moment left wider tasks stands legal por
       number = omega arith;
       apart = λ some. ⊎_elim
           (λ (k : (jobs_of port wider ≡ 0) × (last_release no_release port wider ≡ no_release)). let e = ap (λ (x : Release). x.number) k.1 in absurd (omega arith))
-          (λ (k : (z : PlanItem) × (Has wider z) × (z.job ≡ own.job_of port (last_release no_release port wider).number) × (z.arrival ≡ (last_release no_release port wider).arrival)).
+          (λ (k : (z : PlanItem) × (Has wider z) × (z.job ≡ nth_job port (last_release no_release port wider).number) × (z.arrival ≡ (last_release no_release port wider).arrival)).
           let h = (last_item g trace able s r plan lines is moment left wider tasks stands legal port n m there now into back k.0 k.1 k.2).1 in
           let a = k.3 in
           omega arith)

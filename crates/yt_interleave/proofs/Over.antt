@@ -16,62 +16,24 @@ use Rattle.yt_log.specs.Order.{insert_by, sort_by}
 use Rattle.yt_log.specs.Patterns.{item_before}
 use Rattle.yt_log.specs.Tasks.{Has}
 use Rattle.yt_log.specs.Ticks.{Ticks, tick, done, first_tick}
-use Rattle.yt_log.proofs.Inserts.{insert_yes, insert_no}
+use Rattle.yt_log.proofs.Members.{has_append, has_sorted, sorted_has}
 use Rattle.yt_log.proofs.Plans.{good_item}
 use Rattle.yt_log.proofs.Ticks.{done_grows, first_is, first_stays}
 use Rattle.yt_serial.specs.declared.trace.Message.{Message}
-use Rattle.yt_serial.specs.Beginnings.{newcomer, begun_below, order_of}
+use Rattle.yt_serial.specs.Beginnings.{newcomer, begun_below, order_of, nth_job}
 use Rattle.yt_serial.specs.PortMessages.{PortMessage, numbered}
 use Rattle.yt_serial.specs.SerialHandling.{Handled, Serial, messages_at, items_of, start, port_of, serial_step, serial_run, plan_of, plan_of_log}
 use Rattle.yt_serial.specs.Told.{AllHandled, BeginsInOrder}
-use Rattle.yt_serial.proofs.Lemmas.{begun_below-append, plans_are_legal, feed_cases, port_there, numbered_apart, stepped, writes_below-suc, writes_below_more, writes_below_prefix, writes_in_idle, begun-suc}
+use Rattle.yt_serial.proofs.Lemmas.{begun_below-append, plans_are_legal, feed_cases, port_there, numbered_apart, stepped, writes_below-suc, writes_below_more, writes_below_prefix, writes_in_idle, begun-suc, goes_on, run_rest}
 use Rattle.yt_rates.specs.Rates.{period_of}
 use Rattle.yt_rates.specs.Tables.{tasks_of}
 use Rattle.yt_serial.specs.Variables.{after_writes, writes_in, writes_below}
-use Rattle.yt_interleave.specs.Interleaved.{Begun, Moment, value_at, passed_by, on_way, item_of, job_of, IsInUse, StandsFor}
+use Rattle.yt_interleave.specs.Interleaved.{Begun, Moment, value_at, passed_by, on_way, item_of, IsInUse, StandsFor}
 use Rattle.yt_serial.specs.Laws.{CanRun, VariablesStay}
 use Rattle.yt_interleave.specs.Laws.{IsSerialRun, EndsAreSerial, VariablesAreWritten}
 use Rattle.yt_interleave.specs.Moves.{Interleaves, IsOver}
 use Rattle.yt_interleave.proofs.Begin.{serial}
 use Rattle.yt_interleave.proofs.Pieces.{placed_none}
-
--- what is in a sorted list is in the list, and the other way round
-has_insert : (x : PlanItem) (ys : List PlanItem) (e : PlanItem) → Has (insert_by item_before x ys) e → (e ≡ x) ⊎ Has ys e
-has_insert x [] e h = h
-has_insert x (y ∷ ys) e h =
-    let P : List PlanItem → Type 0 = λ zs. Has zs e in
-    ⊎_elim
-    (λ (b : item_before y x ≡ true).
-    let k : (e ≡ y) ⊎ Has (insert_by item_before x ys) e = subst P (insert_yes x y ys b) h in
-    ⊎_elim
-    (λ (q : e ≡ y). inr (inl q))
-    (λ (l : Has (insert_by item_before x ys) e). ⊎_elim (λ (q : e ≡ x). inl q) (λ (m : Has ys e). inr (inr m)) (has_insert x ys e l))
-    k)
-    (λ (b : item_before y x ≡ false). subst P (insert_no x y ys b) h)
-    (cases_Bool (item_before y x))
-
-pub has_sorted : (xs : List PlanItem) (e : PlanItem) → Has (sort_by item_before xs) e → Has xs e
-has_sorted [] e h = h
-has_sorted (x ∷ xs) e h = ⊎_elim (λ (q : e ≡ x). inl q) (λ (k : Has (sort_by item_before xs) e). inr (has_sorted xs e k)) (has_insert x (sort_by item_before xs) e h)
-
-insert_has : (x : PlanItem) (ys : List PlanItem) (e : PlanItem) → (e ≡ x) ⊎ Has ys e → Has (insert_by item_before x ys) e
-insert_has x [] e h = h
-insert_has x (y ∷ ys) e h =
-    let P : List PlanItem → Type 0 = λ zs. Has zs e in
-    ⊎_elim
-    (λ (b : item_before y x ≡ true).
-    subst P (sym (insert_yes x y ys b))
-    (⊎_elim
-    (λ (q : e ≡ x). inr (insert_has x ys e (inl q)))
-    (λ (k : (e ≡ y) ⊎ Has ys e). ⊎_elim (λ (q : e ≡ y). inl q) (λ (l : Has ys e). inr (insert_has x ys e (inr l))) k)
-    h))
-    (λ (b : item_before y x ≡ false). subst P (sym (insert_no x y ys b)) h)
-    (cases_Bool (item_before y x))
-
-pub sorted_has : (xs : List PlanItem) (e : PlanItem) → Has xs e → Has (sort_by item_before xs) e
-sorted_has [] e h = h
-sorted_has (x ∷ xs) e h =
-    insert_has x (sort_by item_before xs) e (⊎_elim (λ (q : e ≡ x). inl q) (λ (k : Has xs e). inr (sorted_has xs e k)) h)
 
 pub on_way_none : (g : GraphTree) (active : ℕ → Option Begun) → ((port : ℕ) → active port ≡ None) → (f : Feed) → on_way g active f ≡ []
 on_way_none g active none f =
@@ -96,10 +58,10 @@ module _ (g : GraphTree) (trace : List Message) (can : CanRun g trace) (s : Seri
   plan_is = ap (λ (o : Option Serial). option_map_or plan_of o []) stands.along
 
   in_plan : (z : PlanItem) → Has (plan_of_log g trace r.log) z → Has (items_of s) z
-  in_plan z has = has_sorted (items_of s) z (subst (λ (is : List PlanItem). Has is z) plan_is has)
+  in_plan z has = has_sorted item_before (items_of s) z (subst (λ (is : List PlanItem). Has is z) plan_is has)
 
   plan_has : (z : PlanItem) → Has (items_of s) z → Has (plan_of_log g trace r.log) z
-  plan_has z has = subst (λ (is : List PlanItem). Has is z) (sym plan_is) (sorted_has (items_of s) z has)
+  plan_has z has = subst (λ (is : List PlanItem). Has is z) (sym plan_is) (sorted_has item_before (items_of s) z has)
 
   module _ (over : IsOver g s r) where
     not_active : (z : PlanItem) → (b : Begun) × (r.active z.job.task ≡ Some b) × (z ≡ item_of g b) → ⊥
@@ -125,8 +87,8 @@ module _ (g : GraphTree) (trace : List Message) (can : CanRun g trace) (s : Seri
         let fin = finished y has_y in
         let first = first_is r.log y.job (length r.log) (omega arith) in
         let t = first_tick r.log y.job (length r.log) in
-        let turn : 0 < done r.log (job_of y.job.task x.job.number) t = stands.in_turn t y.job first.names x.job.number some lt in
-        let same : job_of y.job.task x.job.number ≡ x.job = ap (λ (n : ℕ). job_of n x.job.number) (sym task) in
+        let turn : 0 < done r.log (nth_job y.job.task x.job.number) t = stands.in_turn t y.job first.names x.job.number some lt in
+        let same : nth_job y.job.task x.job.number ≡ x.job = ap (λ (n : ℕ). nth_job n x.job.number) (sym task) in
         let begun : 0 < done r.log x.job t = subst (λ (j : Job). 0 < done r.log j t) same turn in
         let early = first_is r.log x.job t begun in
         let below = first.below in
@@ -141,7 +103,7 @@ module _ (g : GraphTree) (trace : List Message) (can : CanRun g trace) (s : Seri
     cost_some : (z : PlanItem) → Has (items_of s) z → 1 ≤ z.cost
     cost_some z has =
         let legal = plans_are_legal g trace (order_of r.log) s (record { can = can; along = stands.along }) in
-        (good_item (tasks_of g) (plan_of s) legal z (sorted_has (items_of s) z has)).some
+        (good_item (tasks_of g) (plan_of s) legal z (sorted_has item_before (items_of s) z has)).some
 
     arrive_in_turn : (x y : PlanItem) → Has (items_of s) x → Has (items_of s) y → x.job.task ≡ y.job.task → x.job.number < y.job.number → x.arrival ≤ y.arrival
     arrive_in_turn x y has_x has_y task lt =
@@ -185,57 +147,6 @@ module _ (g : GraphTree) (trace : List Message) (can : CanRun g trace) (s : Seri
 
 pub ends_are_serial : EndsAreSerial
 ends_are_serial g trace can s r is over = told g trace can s r is over
-
--- the jobs that begin after a tick have none before it
-newcomers : (log : Ticks) (n t : ℕ) (o : Option Job) → n ≤ t → (j : Job) → Has (newcomer log t o) j → done log j n ≡ 0
-unfolding newcomer
-newcomers log n t None le j h = absurd h
-newcomers log n t (Some k) le j h =
-    ⊎_elim
-    (λ (e : done log k t ≡ 0).
-    let has : Has (k ∷ []) j = subst (λ (xs : List Job). Has xs j) (cond-true {A = List Job} (eqb (done log k t) 0) (k ∷ []) [] (eq-eqb (done log k t) 0 e)) h in
-    ⊎_elim
-    (λ (q : j ≡ k).
-    let z : done log j t ≡ 0 = ap (λ (x : Job). done log x t) q ∙ e in
-    let g = done_grows log j n t le in
-    omega arith)
-    (λ (q : ⊥). absurd q)
-    has)
-    (λ (ne : done log k t ≡ 0 → ⊥).
-    absurd (subst (λ (xs : List Job). Has xs j) (cond-false {A = List Job} (eqb (done log k t) 0) (k ∷ []) [] (ne_eqb (done log k t) 0 ne)) h))
-    (cases_eq (done log k t) 0)
-
-pub has_append : (xs ys : List Job) (j : Job) → Has (xs ++ ys) j → Has xs j ⊎ Has ys j
-has_append [] ys j h = inr h
-has_append (x ∷ xs) ys j h =
-    ⊎_elim
-    (λ (e : j ≡ x). inl (inl e))
-    (λ (k : Has (xs ++ ys) j). ⊎_elim (λ (l : Has xs j). inl (inr l)) (λ (l : Has ys j). inr l) (has_append xs ys j k))
-    h
-
--- the order of beginning goes on with jobs that had no tick before
-pub record GoesOn (log : Ticks) (n t : ℕ) : Type 0 where
-  pub later : List Job
-  pub order : begun_below log t ≡ begun_below log n ++ later
-  pub none : (j : Job) → Has later j → done log j n ≡ 0
-
-pub goes_on : (log : Ticks) (n k : ℕ) → GoesOn log n (n + k)
-goes_on log n zero = record { later = []; order = ap (begun_below log) (omega arith) ∙ sym (append-nil (begun_below log n)); none = λ j h. absurd h }
-goes_on log n (suc k) =
-    let before = goes_on log n k in
-    let new = newcomer log (n + k) (tick log (n + k)) in
-    record {
-      later = before.later ++ new;
-      order = ap (begun_below log) (omega arith) ∙ begun-suc log (n + k) ∙ ap (λ (xs : List Job). xs ++ new) before.order ∙ append_assoc (begun_below log n) before.later new;
-      none = λ j h. ⊎_elim (λ (l : Has before.later j). before.none j l) (λ (l : Has new j). newcomers log n (n + k) (tick log (n + k)) (omega arith) j l) (has_append before.later new j h);
-    }
-
--- serial handling along an order goes through each of its parts
-run_rest : (g : GraphTree) (xs ys : List Job) (a s t : Serial) → serial_run g xs a ≡ Some s → serial_run g (xs ++ ys) a ≡ Some t → serial_run g ys s ≡ Some t
-run_rest g [] ys a s t h k = subst (λ (x : Serial). serial_run g ys x ≡ Some t) (same_Some a s h) k
-run_rest g (j ∷ xs) ys a s t h k =
-    option_and_then_some {P = serial_run g ys s ≡ Some t} (serial_run g xs) (serial_step g j a) s h
-    (λ x step rest. run_rest g xs ys x s t rest (sym (ap (option_and_then (serial_run g (xs ++ ys))) step) ∙ k))
 
 -- the writes below a tick are those of the jobs that have begun there
 writes_stay : (g : GraphTree) (log : Ticks) (n : ℕ) (xs : List Job) (s t : Serial) → serial_run g xs s ≡ Some t → ((j : Job) → Has xs j → done log j n ≡ 0)

@@ -25,14 +25,6 @@ put_cases {X = X} n x y f m h =
     (λ (ne : m ≡ n → ⊥). inr (ne, sym (put_other n x f m ne) ∙ h))
     (cases_eq m n)
 
-pub has_left : {X : Type 0} (xs ys : List X) (x : X) → Has xs x → Has (xs ++ ys) x
-has_left [] ys x h = absurd h
-has_left {X = X} (y ∷ xs) ys x h = ⊎_elim (λ (e : x ≡ y). inl e) (λ (k : Has xs x). inr (has_left xs ys x k)) h
-
-pub has_last : {X : Type 0} (xs : List X) (x : X) → Has (xs ++ x ∷ []) x
-has_last [] x = inl refl
-has_last (y ∷ xs) x = inr (has_last xs x)
-
 -- messages that are added twice
 pub added_twice : (a b c : Feed → List PortMessage) → ((f : Feed) → a f ++ b f ≡ c f) → (feeds : List Feed) (ms : List (List PortMessage))
     → added b feeds (added a feeds ms) ≡ added c feeds ms

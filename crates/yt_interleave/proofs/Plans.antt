@@ -20,7 +20,7 @@ use Rattle.yt_exec.specs.StandsFor.{item_at, with_cost}
 use Rattle.yt_rates.specs.Rates.{period_of}
 use Rattle.yt_rates.specs.Tables.{tasks_of}
 use Rattle.yt_serial.specs.declared.trace.Message.{Message}
-use Rattle.yt_serial.specs.Beginnings.{order_of}
+use Rattle.yt_serial.specs.Beginnings.{order_of, nth_job}
 use Rattle.yt_serial.specs.PortMessages.{PortMessage, numbered}
 use Rattle.yt_serial.specs.SerialHandling.{Handled, Serial, items_of, brought, handle_message}
 use Rattle.yt_serial.proofs.Lemmas.{placed_at, placed-length, port_there, get_cases, numbered_left, length_push, cases_job}
@@ -30,7 +30,7 @@ use Rattle.yt_serial.specs.Laws.{CanRun}
 use Rattle.yt_interleave.specs.Moves.{MayBegin, after_tick, begun_of, Interleaves, IsOver}
 use Rattle.yt_interleave.specs.Timing.{GoesWith}
 use Rattle.yt_interleave.proofs.Begin as begin
-use Rattle.yt_interleave.proofs.Pieces.{has_left}
+use Rattle.yt_log.proofs.Members.{has_left}
 use Rattle.yt_interleave.proofs.Steps.{after_last, after_other}
 use Rattle.yt_interleave.proofs.Timing.{passes_late, known_port}
 
@@ -100,7 +100,7 @@ abbrev IsKnownIn : Moment → PlanItem → Type 0
 IsKnownIn r z = (m : PortMessage) × (numbered (known_at r z.job.task) z.job.number ≡ Some m) × (m.time ≡ z.arrival)
 
 abbrev IsPlanned : List PlanItem → ℕ → ℕ → Type 0
-IsPlanned plan port n = (z : PlanItem) × (Has plan z) × (z.job ≡ own.job_of port n)
+IsPlanned plan port n = (z : PlanItem) × (Has plan z) × (z.job ≡ nth_job port n)
 
 -- the messages whose time has come are released
 pub releases : (s : Serial) (r : Moment) (plan new : List PlanItem) → GoesWith s r (length r.log) plan

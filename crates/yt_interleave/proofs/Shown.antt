@@ -17,7 +17,8 @@ use Rattle.yt_serial.specs.declared.trace.Message.{Message}
 use Rattle.yt_serial.specs.PortMessages.{PortMessage}
 use Rattle.yt_serial.specs.SerialHandling.{Serial, brought, shown, all_shown, start, handle_message}
 use Rattle.yt_serial.specs.Told.{line_before}
-use Rattle.yt_serial.proofs.Lemmas.{feed_cases, lines_append, all_before, all_at, all_past, has_two, LinesHold, TimesRise, from_not, lines_has, sorted_is}
+use Rattle.yt_log.proofs.Members.{has_append}
+use Rattle.yt_serial.proofs.Lemmas.{feed_cases, lines_append, all_before, all_at, all_past, LinesHold, TimesRise, from_not, lines_has, sorted_is}
 use Rattle.yt_interleave.specs.Interleaved.{Begun, Moment, port_at, passes_of, passed_by, put, on_way, added, output_feeds, first_moment, with_begun, with_tick, with_end}
 use Rattle.yt_serial.specs.Lines.{lines_of, AreInLineOrder}
 use Rattle.yt_interleave.specs.Lines.{messages_to, KnowsLines, come_before, come_at, HasShown}
@@ -216,7 +217,7 @@ known_rise g s r knows hold (suc k) =
 order_append : (xs ys : List OutLine) → AreInLineOrder xs → AreInLineOrder ys → ((x y : OutLine) → Has xs x → Has ys y → line_before y x ≡ false) → AreInLineOrder (xs ++ ys)
 order_append [] ys p q cross = q
 order_append (x ∷ xs) ys p q cross =
-    ((λ z h. ⊎_elim (λ (k : Has xs z). p.0 z k) (λ (k : Has ys z). cross x z (inl refl) k) (has_two xs ys z h)), order_append xs ys p.1 q (λ a b i j. cross a b (inr i) j))
+    ((λ z h. ⊎_elim (λ (k : Has xs z). p.0 z k) (λ (k : Has ys z). cross x z (inl refl) k) (has_append xs ys z h)), order_append xs ys p.1 q (λ a b i j. cross a b (inr i) j))
 
 pub has_before : (n t : ℕ) (ms : List PortMessage) (l : OutLine) → Has (shown n (come_before t ms)) l → l.time < t
 has_before n t [] l h = absurd h

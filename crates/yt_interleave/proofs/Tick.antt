@@ -17,7 +17,8 @@ use Rattle.yt_serial.specs.declared.trace.Message.{Message}
 use Rattle.yt_serial.specs.SerialHandling.{Serial, items_of, start}
 use Rattle.yt_serial.specs.Traces.{KeepsPeriods}
 use Rattle.yt_serial.specs.Variables.{after_writes, writes_at, writes_below}
-use Rattle.yt_interleave.specs.Interleaved.{Begun, Moment, port_at, Uses, value_at, whole_of, item_of, with_tick, with_idle, IsUnderWay, IsInUse, IsEndedOrActive, job_of, BeginInTurn, StandsFor}
+use Rattle.yt_interleave.specs.Interleaved.{Begun, Moment, port_at, Uses, value_at, whole_of, item_of, with_tick, with_idle, IsUnderWay, IsInUse, IsEndedOrActive, BeginInTurn, StandsFor}
+use Rattle.yt_serial.specs.Beginnings.{nth_job}
 use Rattle.yt_interleave.proofs.Begin.{not_both}
 use Rattle.yt_interleave.proofs.HandlerWrites.{IsWritten, handling_written, written_more, after_writes-append, after_writes-length, kept_after, kept_or_written, same_after, has_at, before_length}
 use Rattle.yt_serial.proofs.Lemmas.{length_push, tick_cases, done_before, done_other, done_this, writes_below_push, writes_in_job, writes_in_idle, cases_job}
@@ -48,15 +49,15 @@ module _ (items : List PlanItem) (log : Ticks) (o : Option Job) where
       waiting : (log : Ticks) (t : ℕ) (z : PlanItem) → z.arrival ≤ t → done log z.job t < z.cost → IsWaiting log t z
       waiting log t z a u = record { arrived = a; unfinished = u }
 
-  turn_push : BeginInTurn log → ((j : Job) → o ≡ Some j → (k : ℕ) → 1 ≤ k → k < j.number → 0 < done log (job_of j.task k) (length log)) → BeginInTurn (log ++ o ∷ [])
+  turn_push : BeginInTurn log → ((j : Job) → o ≡ Some j → (k : ℕ) → 1 ≤ k → k < j.number → 0 < done log (nth_job j.task k) (length log)) → BeginInTurn (log ++ o ∷ [])
   turn_push turn last t j is k some lt =
       ⊎_elim
       (λ (e : (t < length log) × (tick log t ≡ Some j)).
-      let same = done_before log o (job_of j.task k) t (omega (arith, e.0)) in
+      let same = done_before log o (nth_job j.task k) t (omega (arith, e.0)) in
       let h = turn t j e.1 k some lt in
       omega arith)
       (λ (e : (t ≡ length log) × (o ≡ Some j)).
-      let same : done (log ++ o ∷ []) (job_of j.task k) t ≡ done log (job_of j.task k) (length log) = ap (done (log ++ o ∷ []) (job_of j.task k)) e.0 ∙ done_before log o (job_of j.task k) (length log) (omega arith) in
+      let same : done (log ++ o ∷ []) (nth_job j.task k) t ≡ done log (nth_job j.task k) (length log) = ap (done (log ++ o ∷ []) (nth_job j.task k)) e.0 ∙ done_before log o (nth_job j.task k) (length log) (omega arith) in
       let h = last j e.1 k some lt in
       omega arith)
       (tick_cases log o j t is)
@@ -176,14 +177,14 @@ module _ (g : GraphTree) (well : IsWellFormed g) (rates : All (IsWithinRates g) 
         (stands.ended z has)
 
     -- the port's earlier jobs have ended
-    earlier_done : (j : Job) → Some b.job ≡ Some j → (k : ℕ) → 1 ≤ k → k < j.number → 0 < done r.log (job_of j.task k) (length r.log)
+    earlier_done : (j : Job) → Some b.job ≡ Some j → (k : ℕ) → 1 ≤ k → k < j.number → 0 < done r.log (nth_job j.task k) (length r.log)
     earlier_done j is k some lt =
         let same : b.job ≡ j = same_Some b.job j is in
         let task : port ≡ j.task = sym u.task ∙ ap (λ (x : Job). x.task) same in
         let number : b.job.number ≡ j.number = ap (λ (x : Job). x.number) same in
         let count = u.number in
         let z = stands.all port k some (omega arith) in
-        let at : z.0.job ≡ job_of j.task k = z.2 ∙ ap (λ (p : ℕ). job_of p k) task in
+        let at : z.0.job ≡ nth_job j.task k = z.2 ∙ ap (λ (p : ℕ). nth_job p k) task in
         ⊎_elim
         (λ (a : (c : Begun) × (r.active z.0.job.task ≡ Some c) × (z.0 ≡ item_of g c)).
         let here : r.active port ≡ r.active z.0.job.task = ap r.active (sym (ap (λ (x : Job). x.task) z.2)) in
@@ -191,7 +192,7 @@ module _ (g : GraphTree) (well : IsWellFormed g) (rates : All (IsWithinRates g) 
         let n : b.job.number ≡ k = ap (λ (x : Begun). x.job.number) c ∙ sym (ap (λ (x : PlanItem). x.job.number) a.2) ∙ ap (λ (x : Job). x.number) z.2 in
         absurd (omega arith))
         (λ (e : done r.log z.0.job (length r.log) ≡ z.0.cost).
-        let move : done r.log z.0.job (length r.log) ≡ done r.log (job_of j.task k) (length r.log) = ap (λ (x : Job). done r.log x (length r.log)) at in
+        let move : done r.log z.0.job (length r.log) ≡ done r.log (nth_job j.task k) (length r.log) = ap (λ (x : Job). done r.log x (length r.log)) at in
         let cost = z.3 in
         omega arith)
         (stands.ended z.0 z.1)

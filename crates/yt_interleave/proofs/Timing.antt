@@ -19,25 +19,15 @@ use Rattle.yt_rates.specs.Faults.{IsWithinRates}
 use Rattle.yt_rates.specs.Rates.{period_of}
 use Rattle.yt_rates.specs.Tables.{task_of, tasks_of}
 use Rattle.yt_serial.specs.declared.trace.Message.{Message}
-use Rattle.yt_serial.specs.Beginnings.{order_of}
+use Rattle.yt_serial.specs.Beginnings.{order_of, nth_job}
 use Rattle.yt_serial.specs.PortMessages.{PortMessage, numbered}
 use Rattle.yt_serial.specs.SerialHandling.{Serial, messages_at, items_of, handled_of, brought}
-use Rattle.yt_serial.proofs.Lemmas.{Holds, port_there, BringsOf, brings, spaced_within, numbered_apart}
-use Rattle.yt_interleave.specs.Interleaved.{Begun, Moment, port_at, known_at, whole_of, item_of, passes_of, job_of, StandsFor}
+use Rattle.yt_serial.proofs.Lemmas.{Holds, port_there, BringsOf, brings, spaced_within, numbered_apart, port_task, sent_late}
+use Rattle.yt_interleave.specs.Interleaved.{Begun, Moment, port_at, known_at, whole_of, item_of, passes_of, StandsFor}
 use Rattle.yt_serial.specs.Laws.{CanRun}
 use Rattle.yt_interleave.specs.Moves.{MayBegin, Interleaves}
 use Rattle.yt_interleave.specs.Timing.{HasEnded, IsOnTime, IsPending, IsResourceFree, GoesWith}
 use Rattle.yt_interleave.proofs.Begin as begin
-
--- the task of a port
-pub port_task : (g : GraphTree) (port : ℕ) (q : PortTree) → numbered g.ports port ≡ Some q
-    → (1 ≤ port) × (port ≤ length (tasks_of g)) × (numbers.task_of (tasks_of g) port ≡ task_of g q)
-port_task g zero q there = absurd (none-some q there)
-port_task g (suc k) q there =
-    let within = slice_get_within g.ports k q there in
-    let long = length-map g.ports (task_of g) in
-    let at : slice_get (tasks_of g) k ≡ Some (task_of g q) = slice_get-map (task_of g) g.ports k ∙ ap (λ o. option_map (task_of g) o) there in
-    (omega arith, omega arith, task_of-suc (tasks_of g) k ∙ get_or_from_slice_get (tasks_of g) k (task_of g q) no_task at)
 
 pub period_some : (g : GraphTree) (port : ℕ) (q : PortTree) → All (IsWithinRates g) g.ports → numbered g.ports port ≡ Some q → 1 ≤ period_of g q
 period_some g zero q rates there = absurd (none-some q there)
@@ -86,20 +76,20 @@ module _ (g : GraphTree) (trace : List Message) (can : CanRun g trace) (s : Seri
       (stands.ended z has)
 
   -- one that has had none has not begun
-  pub not_begun : (port n : ℕ) → 1 ≤ n → done r.log (job_of port n) (length r.log) ≡ 0 → handled_of s port < n
+  pub not_begun : (port n : ℕ) → 1 ≤ n → done r.log (nth_job port n) (length r.log) ≡ 0 → handled_of s port < n
   not_begun port n some none =
       ⊎_elim
       (λ (lt : handled_of s port < n). lt)
       (λ (ge : n ≤ handled_of s port).
       let z = stands.all port n some ge in
       let t = has_tick z.0 z.1 z.3 in
-      let same : done r.log z.0.job (length r.log) ≡ done r.log (job_of port n) (length r.log) = ap (λ (j : Job). done r.log j (length r.log)) z.2 in
+      let same : done r.log z.0.job (length r.log) ≡ done r.log (nth_job port n) (length r.log) = ap (λ (j : Job). done r.log j (length r.log)) z.2 in
       absurd (omega arith))
       (cases_lt (handled_of s port) n)
 
   module _ (on_time : IsOnTime g s r) where
     -- where the handling of a port's message has not begun, all earlier ones have been handled, and none is under way
-    pub in_turn : (port n : ℕ) (m : PortMessage) → numbered (known_at r port) n ≡ Some m → m.time ≤ length r.log → done r.log (job_of port n) (length r.log) ≡ 0
+    pub in_turn : (port n : ℕ) (m : PortMessage) → numbered (known_at r port) n ≡ Some m → m.time ≤ length r.log → done r.log (nth_job port n) (length r.log) ≡ 0
         → (n ≡ suc (handled_of s port)) × (r.active port ≡ None)
     in_turn port zero m there arrived none = absurd (none-some m there)
     in_turn port (suc k) m there arrived none =
@@ -139,13 +129,13 @@ module _ (g : GraphTree) (trace : List Message) (can : CanRun g trace) (s : Seri
         (cases_lt n k)
 
   -- a job has no tick before its message comes
-  pub fresh_before : (port n : ℕ) (m : PortMessage) → numbered (known_at r port) n ≡ Some m → length r.log ≤ m.time → done r.log (job_of port n) (length r.log) ≡ 0
+  pub fresh_before : (port n : ℕ) (m : PortMessage) → numbered (known_at r port) n ≡ Some m → length r.log ≤ m.time → done r.log (nth_job port n) (length r.log) ≡ 0
   fresh_before port n m there late =
       ⊎_elim
-      (λ (lt : 0 < done r.log (job_of port n) (length r.log)).
-      let first = first_is r.log (job_of port n) (length r.log) lt in
-      let t = first_tick r.log (job_of port n) (length r.log) in
-      let l = stands.lawful t (job_of port n) first.names in
+      (λ (lt : 0 < done r.log (nth_job port n) (length r.log)).
+      let first = first_is r.log (nth_job port n) (length r.log) lt in
+      let t = first_tick r.log (nth_job port n) (length r.log) in
+      let l = stands.lawful t (nth_job port n) first.names in
       let z = l.0 in
       let arrived = l.3.arrived in
       let below = first.below in
@@ -155,8 +145,8 @@ module _ (g : GraphTree) (trace : List Message) (can : CanRun g trace) (s : Seri
       let message : m ≡ of.message = same_Some m of.message (sym (known_first port n m there) ∙ same) in
       let time : m.time ≡ z.arrival = ap (λ (x : PortMessage). x.time) message ∙ of.arrival in
       absurd (omega arith))
-      (λ (ge : done r.log (job_of port n) (length r.log) ≤ 0). omega arith)
-      (cases_lt 0 (done r.log (job_of port n) (length r.log)))
+      (λ (ge : done r.log (nth_job port n) (length r.log) ≤ 0). omega arith)
+      (cases_lt 0 (done r.log (nth_job port n) (length r.log)))
 
   -- so where a port's message comes now, its earlier ones have been handled and none is under way
   pub port_free : IsOnTime g s r → (port n : ℕ) (m : PortMessage) → numbered (known_at r port) n ≡ Some m → m.time ≡ length r.log → (n ≡ suc (handled_of s port)) × (r.active port ≡ None)
@@ -198,17 +188,10 @@ module _ (g : GraphTree) (trace : List Message) (can : CanRun g trace) (s : Seri
             absurd (omega arith);
       }
     where
-      same_job_parts : (j : Job) (port k : ℕ) → j.task ≡ port → j.number ≡ k → j ≡ job_of port k
-      same_job_parts j port k e f = ap (λ (n : ℕ). job_of n j.number) e ∙ ap (job_of port) f
+      same_job_parts : (j : Job) (port k : ℕ) → j.task ≡ port → j.number ≡ k → j ≡ nth_job port k
+      same_job_parts j port k e f = ap (λ (n : ℕ). nth_job n j.number) e ∙ ap (nth_job port) f
 
 -- what a job passes on comes no earlier than its deadline
 pub passes_late : (g : GraphTree) (b : Begun) (f : Feed) (k : ℕ) (x : PortMessage)
     → slice_get (brought b.job.task (passes_of g b) f) k ≡ Some x → b.message.time + period_of g (port_at g b.job.task) ≤ x.time
-passes_late g b f k x there =
-    let q = port_at g b.job.task in
-    let sends = (whole_of g b).sends in
-    ⊎_elim
-    (λ (e : brought b.job.task (passes_of g b) f ≡ []). absurd (none-some x (sym (ap (λ (ms : List PortMessage). slice_get ms k) e) ∙ there)))
-    (λ (c : BringsOf g q b.job.task b.job.number b.message.time sends f (brought b.job.task (passes_of g b) f)).
-    (spaced_within c.out (b.message.time + period_of g q) _ sends k x (ap (λ (ms : List PortMessage). slice_get ms k) (sym c.spaced) ∙ there)).starts)
-    (brings g q b.job.task b.job.number b.message.time sends f)
+passes_late g b f k x there = sent_late g (port_at g b.job.task) b.job b.message.time (whole_of g b).sends f k x there

@@ -25,7 +25,8 @@ use Rattle.yt_interleave.specs.Interleaved.{Begun, Moment, port_at, group_at, kn
 use Rattle.yt_serial.specs.Lines.{lines_of}
 use Rattle.yt_interleave.specs.Lines.{come_before, HasShown, KnowsLines}
 use Rattle.yt_interleave.specs.Moves.{MayBegin, after_tick, begun_of, Interleaves, IsOver}
-use Rattle.yt_interleave.specs.Runs.{IsRunnable, IsRunning, AreReleased, AreShownNow, AllCome, RunsGoOn, RunsAreOnTime}
+use Rattle.yt_serial.specs.Judged.{IsRunnable}
+use Rattle.yt_interleave.specs.Runs.{IsRunning, AreReleased, AreShownNow, AllCome, RunsGoOn, RunsAreOnTime}
 use Rattle.yt_interleave.specs.Timing.{HasEnded, IsOnTime, IsPending, IsResourceFree, GoesWith, IsLegalRun}
 use Rattle.yt_interleave.proofs.Executives.{group_is}
 use Rattle.yt_interleave.proofs.Plans as plans
@@ -200,7 +201,7 @@ ends : (g : GraphTree) (trace : List Message) → IsRunnable g trace → (s : Se
     → IsRunning g trace s r due plan lines → IsOver g s r → AllCome r due → length r.log ≡ max (busy_until r.log (length r.log)) (latest lines) → IsPromisedRun g trace r.log lines
 ends g trace able s r due plan lines is over come end =
     let hold = lines_hold g able.can.well_formed able.can.rates trace able.can.keeps (order_of r.log) s is.interleaves.stands.along in
-    ends_are_promised g trace able.can able.keeps s r is.interleaves over plan due is.goes is.by lines
+    ends_are_promised g trace able s r is.interleaves over plan due is.goes is.by lines
     (record { shown = all_are_shown g s r is.interleaves.lines hold over.none due lines is.shown come; ends = end })
 
 pub runs_go_on : RunsGoOn

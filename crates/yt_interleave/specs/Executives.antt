@@ -20,8 +20,10 @@ use Rattle.yt_serial.specs.SerialHandling.{Serial, handle_message}
 use Rattle.yt_interleave.specs.Interleaved as own
 use Rattle.yt_interleave.specs.Interleaved.{Begun, known_at, whole_of, with_begun, with_idle}
 use Rattle.yt_interleave.specs.Moves.{MayBegin, after_tick, begun_of, IsOver}
-use Rattle.yt_interleave.specs.Runs.{IsRunnable, IsRunning}
+use Rattle.yt_serial.specs.Judged.{IsRunnable}
+use Rattle.yt_interleave.specs.Runs.{IsRunning}
 use Rattle.yt_interleave.specs.Timing.{IsPending, IsResourceFree, IsLegalRun}
+use Rattle.yt_serial.specs.Beginnings.{nth_job}
 
 -- so many ticks are left of each job: of one that is under way what its handling has left, of another none
 pub record HasLeft (g : GraphTree) (r : own.Moment) (left : Job → ℕ) : Type 0 where
@@ -96,4 +98,4 @@ pub record ExecutivesTick : Type 0 where
       (g : GraphTree) (trace : List Message) → IsRunnable g trace → (s : Serial) (r : own.Moment) (plan : List PlanItem) (lines : List OutLine) →
       IsRunning g trace s r (length r.log) plan lines → (moment : Moment) (left : Job → ℕ) (wider : List PlanItem) → moment.tasks ≡ tasks_of g → StandsFor moment left wider r.log →
       IsLegal (tasks_of g) wider → (port n : ℕ) (m : PortMessage) → numbered (known_at r port) n ≡ Some m → m.time ≡ length r.log →
-      ((z : PlanItem) → Has plan z → Has wider z) → ((z : PlanItem) → Has wider z → z.job.task ≡ port → Has plan z) → IsNextJob moment (own.job_of port n)
+      ((z : PlanItem) → Has plan z → Has wider z) → ((z : PlanItem) → Has wider z → z.job.task ≡ port → Has plan z) → IsNextJob moment (nth_job port n)

@@ -18,6 +18,7 @@ use Rattle.yt_serial.specs.declared.trace.Message.{Message}
 use Rattle.yt_serial.specs.PortMessages.{PortMessage, numbered, passed}
 use Rattle.yt_serial.specs.SerialHandling.{Handled, Serial, messages_at, items_of, handled_of, start, brought, placed, no_port, serial_run}
 use Rattle.yt_serial.specs.Variables.{after_writes, writes_at, writes_of, variables_at}
+use Rattle.yt_serial.specs.Beginnings.{nth_job}
 
 -- a job that has begun and not ended: its message, and the variables that serial handling has before it
 pub record Begun : Type 0 where
@@ -147,13 +148,9 @@ abbrev pub IsEndedOrActive : GraphTree → Ticks → (ℕ → Option Begun) → 
 IsEndedOrActive g log active z =
     ((b : Begun) × (active z.job.task ≡ Some b) × (z ≡ item_of g b)) ⊎ (done log z.job (length log) ≡ z.cost)
 
--- the number of a task's job
-abbrev pub job_of : ℕ → ℕ → Job
-job_of task number = record { task = task; number = number }
-
 -- no job of a port has a tick before all earlier ones of the port have begun
 abbrev pub BeginInTurn : Ticks → Type 0
-BeginInTurn log = (t : ℕ) (job : Job) → tick log t ≡ Some job → (k : ℕ) → 1 ≤ k → k < job.number → 0 < done log (job_of job.task k) t
+BeginInTurn log = (t : ℕ) (job : Job) → tick log t ≡ Some job → (k : ℕ) → 1 ≤ k → k < job.number → 0 < done log (nth_job job.task k) t
 
 -- the interleaved run stands for serial handling along the jobs that have begun, in this order
 pub record StandsFor (g : GraphTree) (trace : List Message) (order : List Job) (s : Serial) (r : Moment) : Type 0 where
@@ -173,5 +170,5 @@ pub record StandsFor (g : GraphTree) (trace : List Message) (order : List Job) (
   pub named : (job : Job) → 0 < done r.log job (length r.log) → (z : PlanItem) × (Has (items_of s) z) × (z.job ≡ job)
   pub ended : (z : PlanItem) → Has (items_of s) z → IsEndedOrActive g r.log r.active z
   pub one : (a b : PlanItem) → Has (items_of s) a → Has (items_of s) b → a.job ≡ b.job → a ≡ b
-  pub all : (port k : ℕ) → 1 ≤ k → k ≤ handled_of s port → (z : PlanItem) × (Has (items_of s) z) × (z.job ≡ job_of port k) × (1 ≤ z.cost)
+  pub all : (port k : ℕ) → 1 ≤ k → k ≤ handled_of s port → (z : PlanItem) × (Has (items_of s) z) × (z.job ≡ nth_job port k) × (1 ≤ z.cost)
   pub in_turn : BeginInTurn r.log

@@ -6,11 +6,11 @@ use Rattle.yt_log.specs.declared.job.Job.{Job}
 use Rattle.yt_log.specs.declared.plan.PlanItem.{PlanItem}
 use Rattle.yt_log.specs.Tasks.{Has}
 use Rattle.yt_log.specs.Ticks.{Ticks, done, IsLawful}
-use Rattle.yt_log.specs.Laws.{RuleKeeps}
 use Rattle.yt_rates.specs.Faults.{IsWithinRates}
 use Rattle.yt_rates.specs.Tables.{tasks_of}
 use Rattle.yt_serial.specs.declared.shown.OutLine.{OutLine}
 use Rattle.yt_serial.specs.declared.trace.Message.{Message}
+use Rattle.yt_serial.specs.Judged.{IsRunnable}
 use Rattle.yt_serial.specs.PortMessages.{PortMessage}
 use Rattle.yt_serial.specs.SerialHandling.{Handled, Serial, handle_message, handled_along, plan_of_log, start}
 use Rattle.yt_serial.specs.Told.{AllHandled, BeginsInOrder, IsPromisedRun}
@@ -63,14 +63,8 @@ VariablesAreWritten =
     (more : Ticks) (whole : Serial) → handled_along g trace (r.log ++ more) ≡ Some whole →
     variables_at (start g trace).vars whole.handled (r.log ++ more) (length r.log) ≡ r.vars
 
--- where the graph's tasks fit, and the log is the rule's for a legal plan that goes with the run, it keeps every promise of a run
+-- where the log is the rule's for a legal plan that goes with the run, it keeps every promise of a run
 abbrev pub EndsArePromised : Type 0
 EndsArePromised =
-    (g : GraphTree) (trace : List Message) → CanRun g trace → RuleKeeps (tasks_of g) → (s : Serial) (r : Moment) → Interleaves g trace s r → IsOver g s r →
+    (g : GraphTree) (trace : List Message) → IsRunnable g trace → (s : Serial) (r : Moment) → Interleaves g trace s r → IsOver g s r →
     (plan : List PlanItem) (due : ℕ) → GoesWith s r due plan → IsLegalRun g plan r.log → (lines : List OutLine) → IsShown s r.log lines → IsPromisedRun g trace r.log lines
-
--- two promised runs of one graph on one trace are one
-abbrev pub RunsAreOne : Type 0
-RunsAreOne =
-    (g : GraphTree) (trace : List Message) → CanRun g trace → (a b : Ticks) (lines more : List OutLine) →
-    IsPromisedRun g trace a lines → IsPromisedRun g trace b more → (a ≡ b) × (lines ≡ more)

@@ -11,22 +11,18 @@ use Rattle.yt_rates.specs.Rates.{period_of}
 use Rattle.yt_rates.specs.Tables.{tasks_of}
 use Rattle.yt_serial.specs.declared.shown.OutLine.{OutLine}
 use Rattle.yt_serial.specs.declared.trace.Message.{Message}
-use Rattle.yt_serial.specs.Beginnings.{busy_until}
+use Rattle.yt_serial.specs.Beginnings.{busy_until, nth_job}
 use Rattle.yt_serial.specs.PortMessages.{PortMessage, numbered}
 use Rattle.yt_serial.specs.SerialHandling.{Serial, messages_at, handled_of, shown, start, handle_message, handled_along}
 use Rattle.yt_serial.specs.Told.{latest, IsPromisedRun}
-use Rattle.yt_interleave.specs.Interleaved.{Begun, Moment, known_at, whole_of, job_of, first_moment, with_begun, with_idle}
+use Rattle.yt_interleave.specs.Interleaved.{Begun, Moment, known_at, whole_of, first_moment, with_begun, with_idle}
 use Rattle.yt_serial.specs.Variables.{variables_at}
 use Rattle.yt_serial.specs.Laws.{CanRun}
 use Rattle.yt_serial.specs.Lines.{lines_of, AreInLineOrder}
 use Rattle.yt_interleave.specs.Lines.{messages_to, come_at, HasShown}
 use Rattle.yt_interleave.specs.Moves.{MayBegin, after_tick, begun_of, Interleaves, IsOver}
 use Rattle.yt_interleave.specs.Timing.{HasEnded, IsOnTime, IsPending, IsResourceFree, GoesWith, IsLegalRun}
-
--- a graph and a trace that can be run, and logs of the rule keep the deadlines of the graph's tasks
-pub record IsRunnable (g : GraphTree) (trace : List Message) : Type 0 where
-  pub can : CanRun g trace
-  pub keeps : RuleKeeps (tasks_of g)
+use Rattle.yt_serial.specs.Judged.{IsRunnable}
 
 -- a run between two ticks: what came before `due` is placed, released and shown
 pub record IsRunning (g : GraphTree) (trace : List Message) (s : Serial) (r : Moment) (due : ℕ) (plan : List PlanItem) (lines : List OutLine) : Type 0 where
@@ -39,7 +35,7 @@ pub record IsRunning (g : GraphTree) (trace : List Message) (s : Serial) (r : Mo
 pub record AreReleased (r : Moment) (new : List PlanItem) : Type 0 where
   pub known : (z : PlanItem) → Has new z → (m : PortMessage) × (numbered (known_at r z.job.task) z.job.number ≡ Some m) × (m.time ≡ z.arrival)
   pub now : (z : PlanItem) → Has new z → z.arrival ≡ length r.log
-  pub all : (port n : ℕ) (m : PortMessage) → numbered (known_at r port) n ≡ Some m → m.time ≡ length r.log → (z : PlanItem) × (Has new z) × (z.job ≡ job_of port n)
+  pub all : (port n : ℕ) (m : PortMessage) → numbered (known_at r port) n ≡ Some m → m.time ≡ length r.log → (z : PlanItem) × (Has new z) × (z.job ≡ nth_job port n)
 
 -- lines of the known messages that come now, in order
 pub record AreShownNow (r : Moment) (more : List OutLine) : Type 0 where

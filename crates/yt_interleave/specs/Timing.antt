@@ -11,11 +11,11 @@ use Rattle.yt_log.specs.Ticks.{Ticks, done}
 use Rattle.yt_rates.specs.Rates.{period_of}
 use Rattle.yt_rates.specs.Tables.{tasks_of}
 use Rattle.yt_serial.specs.declared.shown.OutLine.{OutLine}
-use Rattle.yt_serial.specs.Beginnings.{busy_until}
+use Rattle.yt_serial.specs.Beginnings.{busy_until, nth_job}
 use Rattle.yt_serial.specs.PortMessages.{PortMessage, numbered}
 use Rattle.yt_serial.specs.SerialHandling.{Serial, items_of, handled_of}
 use Rattle.yt_serial.specs.Told.{line_before, latest}
-use Rattle.yt_interleave.specs.Interleaved.{Begun, Moment, group_at, known_at, job_of}
+use Rattle.yt_interleave.specs.Interleaved.{Begun, Moment, group_at, known_at}
 
 -- the handling of a port's message of a number has ended
 pub record HasEnded (s : Serial) (r : Moment) (port n : ℕ) : Type 0 where
@@ -43,7 +43,7 @@ pub record GoesWith (s : Serial) (r : Moment) (due : ℕ) (plan : List PlanItem)
   pub begun : (z : PlanItem) → Has (items_of s) z → Has plan z
   pub known : (z : PlanItem) → Has plan z → (m : PortMessage) × (numbered (known_at r z.job.task) z.job.number ≡ Some m) × (m.time ≡ z.arrival)
   pub early : (z : PlanItem) → Has plan z → z.arrival < due
-  pub all : (port n : ℕ) (m : PortMessage) → numbered (known_at r port) n ≡ Some m → m.time < due → (z : PlanItem) × (Has plan z) × (z.job ≡ job_of port n)
+  pub all : (port n : ℕ) (m : PortMessage) → numbered (known_at r port) n ≡ Some m → m.time < due → (z : PlanItem) × (Has plan z) × (z.job ≡ nth_job port n)
 
 -- a plan is legal for the graph's tasks, and the log is the rule's for it
 pub record IsLegalRun (g : GraphTree) (plan : List PlanItem) (log : Ticks) : Type 0 where

@@ -17,6 +17,7 @@ pub mod Growing
 pub mod HeadChoices
 pub mod HeadRuns
 pub mod HeadSteps
+pub mod Members
 pub mod Inserts
 pub mod Jobs
 pub mod Judged

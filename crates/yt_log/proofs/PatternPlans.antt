@@ -11,6 +11,7 @@ use Rattle.yt_log.proofs.Forms.{IsUsable, AreUsable}
 use Rattle.yt_log.proofs.Plans.{IsGood, jobs_of-cons}
 use Rattle.yt_log.proofs.Appends.{has_push, jobs_push_same, jobs_push_other, jobs_none}
 use Rattle.yt_log.proofs.Demands.{has_task, task_of-suc}
+use Rattle.yt_log.proofs.Members.{has_append, has_insert, has_sorted}
 use Rattle.yt_log.proofs.Inserts.{IsLegalFrom, legal_whole, legal_same, legal_insert, insert_yes, insert_no}
 
 -- items put in, the last one first
@@ -25,33 +26,6 @@ insert_all-append (x ∷ xs) ys plan = ap (insert_by item_before x) (insert_all-
 sort_append : (xs ys : List PlanItem) → sort_by item_before (xs ++ ys) ≡ insert_all xs (sort_by item_before ys)
 sort_append [] ys = refl
 sort_append (x ∷ xs) ys = ap (insert_by item_before x) (sort_append xs ys)
-
--- what a sorted list has
-has_insert : (x : PlanItem) (ys : List PlanItem) (e : PlanItem) → Has (insert_by item_before x ys) e → (e ≡ x) ⊎ Has ys e
-has_insert x [] e h = h
-has_insert x (y ∷ ys) e h =
-    let P : List PlanItem → Type 0 = λ zs. Has zs e in
-    ⊎_elim
-    (λ (b : item_before y x ≡ true).
-    let k : (e ≡ y) ⊎ Has (insert_by item_before x ys) e = subst P (insert_yes x y ys b) h in
-    ⊎_elim
-    (λ (q : e ≡ y). inr (inl q))
-    (λ (l : Has (insert_by item_before x ys) e). ⊎_elim (λ (q : e ≡ x). inl q) (λ (m : Has ys e). inr (inr m)) (has_insert x ys e l))
-    k)
-    (λ (b : item_before y x ≡ false). subst P (insert_no x y ys b) h)
-    (cases_Bool (item_before y x))
-
-has_sort : (xs : List PlanItem) (e : PlanItem) → Has (sort_by item_before xs) e → Has xs e
-has_sort [] e h = h
-has_sort (x ∷ xs) e h = ⊎_elim (λ (q : e ≡ x). inl q) (λ (k : Has (sort_by item_before xs) e). inr (has_sort xs e k)) (has_insert x (sort_by item_before xs) e h)
-
-has_append : (xs ys : List PlanItem) (e : PlanItem) → Has (xs ++ ys) e → Has xs e ⊎ Has ys e
-has_append [] ys e h = inr h
-has_append (x ∷ xs) ys e h =
-    ⊎_elim
-    (λ (q : e ≡ x). inl (inl q))
-    (λ (k : Has (xs ++ ys) e). ⊎_elim (λ (l : Has xs e). inl (inr l)) (λ (r : Has ys e). inr r) (has_append xs ys e k))
-    h
 
 -- how many jobs of a task it has
 jobs_of-insert : (m : ℕ) (x : PlanItem) (ys : List PlanItem) → jobs_of m (insert_by item_before x ys) ≡ jobs_of m (x ∷ ys)
@@ -154,7 +128,7 @@ module _ (tasks : List Task) (n : ℕ) (from_one : 1 ≤ n) (in_set : n ≤ leng
       (λ z is s. ⊎_elim
       (λ (q : z ≡ x). let P : PlanItem → Type 0 = λ w. a.first + k * a.step ≤ w.arrival in subst P (sym q) (omega arith))
       (λ (m : Has plan z). let l = late z m s in omega arith)
-      (has_insert x plan z is))
+      (has_insert item_before x plan z is))
       put in
       let P : List PlanItem → Type 0 = λ zs. IsLegalFrom off' tasks [] zs in
       subst P (sym (insert_all-append (jobs_arriving n a k) (x ∷ []) plan)) more
@@ -243,7 +217,7 @@ module _ (tasks : List Task) (set : AreUsable tasks) (start count : ℕ → ℕ)
       let t = follow_first n task rest f in
       let is = set (task_of tasks n) (has_task tasks n a (omega arith)) in
       let off : ℕ → ℕ = λ m. cond (eqb m n) (count n) 0 in
-      let above : (e : PlanItem) → Has later e → n < e.job.task = λ e h. let k = (has_item_of (suc n) rest follow e (has_sort more e h)).above in omega arith in
+      let above : (e : PlanItem) → Has later e → n < e.job.task = λ e h. let k = (has_item_of (suc n) rest follow e (has_sorted item_before more e h)).above in omega arith in
       let begun = legal_same none off tasks [] later (λ e h. let l = above e h in cond-false (eqb e.job.task n) (count n) 0 (ne_eqb e.job.task n (λ q. absurd (omega arith))))
       (sorted_legal (suc n) rest (omega arith) (omega arith) follow) in
       let here : off n ≡ count n = cond-true (eqb n n) (count n) 0 (eq-eqb n n refl) in
@@ -267,6 +241,6 @@ module _ (tasks : List Task) (set : AreUsable tasks) (start count : ℕ → ℕ)
       let all = all_arriving 1 (arrivals_from start count 1 tasks) in
       record {
         legal = legal_whole none tasks [] (sort_by item_before all) (λ m. refl) (sorted_legal 1 tasks (omega arith) (omega arith) follow_all);
-        items = λ e h. (has_item_of 1 tasks follow_all e (has_sort all e h)).item;
+        items = λ e h. (has_item_of 1 tasks follow_all e (has_sorted item_before all e h)).item;
         counts = λ m a b. jobs_of-sort m all ∙ jobs_at m 1 tasks a (omega arith);
       }

@@ -2,9 +2,11 @@ mod SerialExamples
 pub mod Lemmas
 mod Bounds
 mod Done
+mod Judged
 mod LineOrder
 mod LogWrites
 mod Orderly
+mod Orders
 mod Prefix
 mod Sends
 mod SerialInvariant
@@ -12,4 +14,6 @@ mod SerialLaws
 mod SerialLines
 mod SerialRuns
 mod SerialStates
+mod SerialSteps
 mod Spread
+mod Unique

@@ -3,6 +3,7 @@ use Rattle.std.proofs.Common.{◌≡◌, ◌⊎◌, ℕ, ◌<◌, ◌≤◌, tru
 use Rattle.std.proofs.lemmas.Bool.{cases_eq, cases_lt, cases_Bool, cond-true, cond-false, both_ways, or_cases, and_parts, or_left, or_right, and_from, false_from_ne_true}
 use Rattle.yt_log.specs.Order.{insert_by, sort_by}
 use Rattle.yt_log.specs.Tasks.{Has}
+use Rattle.yt_log.proofs.Members.{has_insert, has_sorted}
 use Rattle.yt_serial.specs.declared.shown.OutLine.{OutLine}
 use Rattle.yt_serial.specs.Told.{line_before}
 use Rattle.yt_serial.specs.Lines.{lines_of, AreInLineOrder}
@@ -146,20 +147,6 @@ abbrev pub TimesRise : List OutLine → Type 0
 TimesRise [] = Unit {0}
 TimesRise (l ∷ lines) = ((x : OutLine) → Has lines x → l.time ≤ x.time) × TimesRise lines
 
-has_insert : (x : OutLine) (ys : List OutLine) (e : OutLine) → Has (insert_by line_before x ys) e → (e ≡ x) ⊎ Has ys e
-has_insert x [] e h = h
-has_insert x (y ∷ ys) e h =
-    let P : List OutLine → Type 0 = λ zs. Has zs e in
-    ⊎_elim
-    (λ (b : line_before y x ≡ true).
-    let k : (e ≡ y) ⊎ Has (insert_by line_before x ys) e = subst P (cond-true (line_before y x) (y ∷ insert_by line_before x ys) (x ∷ y ∷ ys) b) h in
-    ⊎_elim
-    (λ (q : e ≡ y). inr (inl q))
-    (λ (l : Has (insert_by line_before x ys) e). ⊎_elim (λ (q : e ≡ x). inl q) (λ (m : Has ys e). inr (inr m)) (has_insert x ys e l))
-    k)
-    (λ (b : line_before y x ≡ false). subst P (cond-false (line_before y x) (y ∷ insert_by line_before x ys) (x ∷ y ∷ ys) b) h)
-    (cases_Bool (line_before y x))
-
 -- a line put into lines in order
 insert_order : (x : OutLine) (ys : List OutLine) → AreInLineOrder ys → AreInLineOrder (insert_by line_before x ys)
 insert_order x [] p = ((λ y h. absurd h), tt)
@@ -170,7 +157,7 @@ insert_order x (y ∷ ys) p =
       (λ z h. ⊎_elim
           (λ (e : z ≡ x). subst (λ (w : OutLine). line_before w y ≡ false) (sym e) (from_not x y (⊎_elim (λ (l : y.time < x.time). inl l) (λ (k : (y.time ≡ x.time) × (y.output < x.output)). let o = k.1 in inr (k.0, omega arith)) (before_parts y x b))))
           (λ (k : Has ys z). p.0 z k)
-          (has_insert x ys z h)),
+          (has_insert line_before x ys z h)),
       insert_order x ys p.1,
     ))
     (λ (b : line_before y x ≡ false).
@@ -208,10 +195,6 @@ insert_lines n x (y ∷ ys) first =
         lines_other n y (x ∷ ys) ne ∙ sym (lines_front n x (y ∷ ys) ys (lines_other n y ys ne)))
         (cases_eq y.output n)
 
-has_sort : (xs : List OutLine) (e : OutLine) → Has (sort_by line_before xs) e → Has xs e
-has_sort [] e h = h
-has_sort (x ∷ xs) e h = ⊎_elim (λ (q : e ≡ x). inl q) (λ (k : Has (sort_by line_before xs) e). inr (has_sort xs e k)) (has_insert x (sort_by line_before xs) e h)
-
 pub sort_order : (xs : List OutLine) → AreInLineOrder (sort_by line_before xs)
 sort_order [] = tt
 sort_order (x ∷ xs) = insert_order x (sort_by line_before xs) (sort_order xs)
@@ -220,7 +203,7 @@ sort_order (x ∷ xs) = insert_order x (sort_by line_before xs) (sort_order xs)
 pub sort_lines : (xs : List OutLine) → ((n : ℕ) → TimesRise (lines_of n xs)) → (n : ℕ) → lines_of n (sort_by line_before xs) ≡ lines_of n xs
 sort_lines [] rise n = refl
 sort_lines (x ∷ xs) rise n =
-    insert_lines n x (sort_by line_before xs) (λ y h e. first y (has_sort xs y h) e)
+    insert_lines n x (sort_by line_before xs) (λ y h e. first y (has_sorted line_before xs y h) e)
     ∙ lines_front n x (sort_by line_before xs) xs (sort_lines xs rest n)
   where
     first : (y : OutLine) → Has xs y → y.output ≡ x.output → x.time ≤ y.time

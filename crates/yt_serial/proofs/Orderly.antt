@@ -8,26 +8,9 @@ use Rattle.yt_log.specs.Patterns.{item_before}
 use Rattle.yt_log.specs.Plan.{its_task, jobs_of, IsLegal}
 use Rattle.yt_log.specs.Tasks.{Has}
 use Rattle.yt_log.proofs.Appends.{has_push, jobs_none}
-use Rattle.yt_log.proofs.Inserts.{IsLegalFrom, legal_whole, legal_insert, insert_yes, insert_no}
+use Rattle.yt_log.proofs.Inserts.{IsLegalFrom, legal_whole, legal_insert}
+use Rattle.yt_log.proofs.Members.{has_sorted}
 use Rattle.yt_log.proofs.Plans.{IsGood, jobs_of-cons}
-
-has_insert : (x : PlanItem) (ys : List PlanItem) (e : PlanItem) → Has (insert_by item_before x ys) e → (e ≡ x) ⊎ Has ys e
-has_insert x [] e h = h
-has_insert x (y ∷ ys) e h =
-    let P : List PlanItem → Type 0 = λ zs. Has zs e in
-    ⊎_elim
-    (λ (b : item_before y x ≡ true).
-    let k : (e ≡ y) ⊎ Has (insert_by item_before x ys) e = subst P (insert_yes x y ys b) h in
-    ⊎_elim
-    (λ (q : e ≡ y). inr (inl q))
-    (λ (l : Has (insert_by item_before x ys) e). ⊎_elim (λ (q : e ≡ x). inl q) (λ (m : Has ys e). inr (inr m)) (has_insert x ys e l))
-    k)
-    (λ (b : item_before y x ≡ false). subst P (insert_no x y ys b) h)
-    (cases_Bool (item_before y x))
-
-has_sort : (xs : List PlanItem) (e : PlanItem) → Has (sort_by item_before xs) e → Has xs e
-has_sort [] e h = h
-has_sort (x ∷ xs) e h = ⊎_elim (λ (q : e ≡ x). inl q) (λ (k : Has (sort_by item_before xs) e). inr (has_sort xs e k)) (has_insert x (sort_by item_before xs) e h)
 
 -- the counts of jobs with one job more
 abbrev pub more : (ℕ → ℕ) → PlanItem → ℕ → ℕ
@@ -54,7 +37,7 @@ sorted off tasks (x ∷ xs) orderly =
     legal_insert (more off x) off tasks x first.good first.period (omega arith)
     (λ m ne. let other : cond {A = ℕ} (eqb x.job.task m) 1 0 ≡ 0 = cond-false (eqb x.job.task m) 1 0 (ne_eqb x.job.task m (λ e. ne (sym e))) in omega arith)
     (omega arith) (sort_by item_before xs)
-    (λ z is s. first.later z (has_sort xs z is) s)
+    (λ z is s. first.later z (has_sorted item_before xs z is) s)
     (sorted (more off x) tasks xs orderly.1)
 
 abbrev pub none : ℕ → ℕ

@@ -18,6 +18,7 @@ use Rattle.yt_log.specs.declared.job.Job.{Job}
 use Rattle.yt_log.specs.declared.plan.PlanItem.{PlanItem}
 use Rattle.yt_log.specs.Plan.{jobs_of}
 use Rattle.yt_log.specs.Tasks.{Has}
+use Rattle.yt_log.proofs.Members.{has_append}
 use Rattle.yt_log.proofs.Appends.{jobs_push_same, jobs_push_other}
 use Rattle.yt_rates.specs.Faults.{IsWithinRates}
 use Rattle.yt_rates.specs.Rates.{every_of, period_of, gap_of}
@@ -133,18 +134,10 @@ added_lines task passes outputs (suc k) = by outputs (all_at task passes 1 k out
         (λ (ge : length (x ∷ outs) ≤ k). inl (past (omega arith)))
         (cases_lt k (length (x ∷ outs)))
 
-pub has_two : (xs bs : List OutLine) (z : OutLine) → Has (xs ++ bs) z → Has xs z ⊎ Has bs z
-has_two [] bs z h = inr h
-has_two (a ∷ xs) bs z h =
-    ⊎_elim
-    (λ (e : z ≡ a). inl (inl e))
-    (λ (k : Has (xs ++ bs) z). ⊎_elim (λ (l : Has xs z). inl (inr l)) (λ (l : Has bs z). inr l) (has_two xs bs z k))
-    h
-
 rise_append : (xs ys : List OutLine) → TimesRise xs → TimesRise ys → ((x y : OutLine) → Has xs x → Has ys y → x.time ≤ y.time) → TimesRise (xs ++ ys)
 rise_append [] ys p q cross = q
 rise_append (x ∷ xs) ys p q cross =
-    ((λ z h. ⊎_elim (λ (k : Has xs z). p.0 z k) (λ (k : Has ys z). cross x z (inl refl) k) (has_two xs ys z h)), rise_append xs ys p.1 q (λ a b i j. cross a b (inr i) j))
+    ((λ z h. ⊎_elim (λ (k : Has xs z). p.0 z k) (λ (k : Has ys z). cross x z (inl refl) k) (has_append xs ys z h)), rise_append xs ys p.1 q (λ a b i j. cross a b (inr i) j))
 
 has_shown : (n : ℕ) (ms : List PortMessage) (l : OutLine) → Has (shown n ms) l → (i : ℕ) × (m : PortMessage) × (slice_get ms i ≡ Some m) × (l.time ≡ m.time)
 has_shown n [] l h = absurd h
@@ -347,7 +340,7 @@ module _ (g : GraphTree) (s : Serial) (holds : Holds g s) (lines : LinesHold g s
           let ports : q ≡ r = same_Some q r (sym is_port ∙ ap (numbered g.ports) (sym new.from) ∙ at_r) in
           subst (λ (x : PortTree). ComesOf g s' x o.port o.out (message_in l)) ports
           (subst (λ (t : ℕ). ComesOf g s' q t o.out (message_in l)) (sym new.from) new.comes))
-          (has_two (lines_of (suc k) s.lines) (shown (suc k) (brought job.task passes (Out o.port o.out))) l h)
+          (has_append (lines_of (suc k) s.lines) (shown (suc k) (brought job.task passes (Out o.port o.out))) l h)
 
   pub lines_hold_after : LinesHold g s'
   lines_hold_after = record { rise = rise_after; comes = comes_after }

@@ -1,7 +1,11 @@
--- In which order the jobs of a log begin, and when its last one ends.
+-- The jobs of a log: in which order they begin, and when the last one ends.
 use Rattle.std.specs.Prelude.{ℕ, zero, suc, ◌==◌, List, [], ◌∷◌, ◌++◌, Option, Some, None, is_some, length, if◌then◌else◌}
 use Rattle.yt_log.specs.declared.job.Job.{Job}
 use Rattle.yt_log.specs.Ticks.{Ticks, tick, done}
+
+-- the job of a task, by its number
+abbrev pub nth_job : ℕ → ℕ → Job
+nth_job task number = record { task = task; number = number }
 
 -- the job that begins in a tick, where one does
 unfoldable pub newcomer : Ticks → ℕ → Option Job → List Job

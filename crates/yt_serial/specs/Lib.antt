@@ -7,3 +7,4 @@ pub mod Lines
 pub mod Variables
 pub mod Bounds
 pub mod Laws
+pub mod Judged

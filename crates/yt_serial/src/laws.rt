@@ -1,6 +1,7 @@
 //! Laws of the definitions.
 
 ghost use Rattle.yt_serial.specs.Bounds.{MessagesAreBounded};
+ghost use Rattle.yt_serial.specs.Judged.{RunsAreJudged};
 ghost use Rattle.yt_serial.specs.Laws.{LogPlansAreLegal, MessagesAreApart, PlansAreLegal, VariablesStay};
 
 /// Along each order on which it is defined, serial handling makes a legal plan for the graph's tasks.
@@ -26,4 +27,9 @@ pub fn messages_are_bounded()
 /// After the end of a log the variables stay as its last tick left them.
 pub fn variables_stay()
     ensures { VariablesStay }
+{}
+
+/// A log and lines that can be judged to be the run's, without running anything, keep every promise of a run; and there is one run.
+pub fn runs_are_judged()
+    ensures { RunsAreJudged }
 {}
