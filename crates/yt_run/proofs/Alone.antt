@@ -5,8 +5,8 @@ use Rattle.yt_log.specs.declared.plan.PlanItem.{PlanItem}
 use Rattle.yt_log.specs.Plan.{its_task, deadline_of, jobs_of, IsLegalAfter, IsLegal}
 use Rattle.yt_log.specs.Tasks.{Has, task_of}
 use Rattle.yt_log.specs.Ticks.{Ticks, Misses}
-use Rattle.yt_run.specs.Alone.{one_task, nth_job, TimesAreApartFrom, TimesAreApart, RunsAlone, items_from, alone_from}
-use Rattle.yt_serial.specs.Beginnings.{begun_below, order_of}
+use Rattle.yt_run.specs.Alone.{one_task, TimesAreApartFrom, TimesAreApart, RunsAlone, items_from, alone_from}
+use Rattle.yt_serial.specs.Beginnings.{nth_job, begun_below, order_of}
 use Rattle.yt_run.proofs.AloneTicks.{RunFrom, one_from, alone_runs_from, alone_at_once}
 use Rattle.yt_run.proofs.AtOnce.{RunsAtOnce, done_at_once, done_in_time, ends_within, at_once_lawful, at_once_work_conserving, at_once_exclusive, at_once_edf_ddm, at_once_finished, at_once_first_tick}
 use Rattle.yt_serial.proofs.Lemmas.{done_within, begun_fresh, begun_again, begun_idle, begun_stays}
@@ -32,7 +32,7 @@ legal_from : (cost period : ℕ) → 1 ≤ cost → (n from : ℕ) (times : List
     ((earlier : PlanItem) → Has before earlier → earlier.arrival + period ≤ from) → IsLegalAfter (one_task cost period) before (items_from cost n times)
 legal_from cost period some n from [] before apart count early = tt
 legal_from cost period some n from (a ∷ times) before apart count early =
-    let item : PlanItem = record { job = nth_job (suc n); arrival = a; cost = cost } in
+    let item : PlanItem = record { job = nth_job 1 (suc n); arrival = a; cost = cost } in
     let tasks = one_task cost period in
     let come = apart.0 in
     let p = one_task_period cost period item refl in
@@ -60,7 +60,7 @@ alone_legal cost period times some apart = legal_from cost period some 0 0 times
 -- a job that costs more than the period misses its deadline, however it runs
 pub overload_misses : (cost period : ℕ) → period < cost → (log : Ticks) → Misses (one_task cost period) (items_from cost 0 (0 ∷ [])) log period
 overload_misses cost period over log =
-    let item : PlanItem = record { job = nth_job 1; arrival = 0; cost = cost } in
+    let item : PlanItem = record { job = nth_job 1 1; arrival = 0; cost = cost } in
     let tasks = one_task cost period in
     let d = one_task_deadline cost period item refl in
     let w = done_within log item.job (deadline_of tasks item) in
@@ -75,7 +75,7 @@ arrives_from cost period n from [] apart item is = absurd is
 arrives_from cost period n from (a ∷ times) apart item is =
     let come = apart.0 in
     ⊎_elim
-    (λ (e : item ≡ record { job = nth_job (suc n); arrival = a; cost = cost }). let r : item.arrival ≡ a = ap (λ (y : PlanItem). y.arrival) e in omega arith)
+    (λ (e : item ≡ record { job = nth_job 1 (suc n); arrival = a; cost = cost }). let r : item.arrival ≡ a = ap (λ (y : PlanItem). y.arrival) e in omega arith)
     (λ (m : Has (items_from cost (suc n) times) item). let r = arrives_from cost period (suc n) (a + period) times apart.1 item m in omega arith)
     is
 
@@ -83,7 +83,7 @@ arrives_from cost period n from (a ∷ times) apart item is =
 pub apart_from : (cost period n from : ℕ) (times : List ℕ) → TimesAreApartFrom period from times → (a b : PlanItem) → Has (items_from cost n times) a → Has (items_from cost n times) b → a.job.number < b.job.number → a.arrival + period ≤ b.arrival
 apart_from cost period n from [] apart a b ha hb lt = absurd ha
 apart_from cost period n from (x ∷ times) apart a b ha hb lt =
-    let head : PlanItem = record { job = nth_job (suc n); arrival = x; cost = cost } in
+    let head : PlanItem = record { job = nth_job 1 (suc n); arrival = x; cost = cost } in
     ⊎_elim
     (λ (q : b ≡ head).
     let s : b.job.number ≡ suc n = ap (λ (y : PlanItem). y.job.number) q in
@@ -105,7 +105,7 @@ order_from : (plan : List PlanItem) (log : Ticks) (cost : ℕ) → RunsAtOnce pl
 order_from plan log cost runs some n at [] within run h =
     begun_stays log at (length log) h (λ v a b. begun_idle log v (run v a)) ∙ sym (append-nil (begun_below log at))
 order_from plan log cost runs some n at (a ∷ times) within run h =
-    let j = nth_job (suc n) in
+    let j = nth_job 1 (suc n) in
     let item : PlanItem = record { job = j; arrival = a; cost = cost } in
     let has = within item (inl refl) in
     let ends = ends_within plan log runs item has some in

@@ -6,11 +6,12 @@ use Rattle.yt_log.specs.declared.job.Job.{Job}
 use Rattle.yt_log.specs.declared.plan.PlanItem.{PlanItem}
 use Rattle.yt_log.specs.Tasks.{Has}
 use Rattle.yt_log.specs.Ticks.{Ticks, tick}
-use Rattle.yt_run.specs.Alone.{nth_job, TimesAreApartFrom, TimesAreApart, items_from, alone_from}
+use Rattle.yt_serial.specs.Beginnings.{nth_job}
+use Rattle.yt_run.specs.Alone.{TimesAreApartFrom, TimesAreApart, items_from, alone_from}
 use Rattle.yt_run.proofs.AtOnce.{IsInRun, RunsAtOnce}
 
 -- two jobs of two ticks that arrive at 1 and at 4
-worked_row : alone_from 2 0 0 (1 ∷ 4 ∷ []) ≡ None ∷ Some (nth_job 1) ∷ Some (nth_job 1) ∷ None ∷ Some (nth_job 2) ∷ Some (nth_job 2) ∷ []
+worked_row : alone_from 2 0 0 (1 ∷ 4 ∷ []) ≡ None ∷ Some (nth_job 1 1) ∷ Some (nth_job 1 1) ∷ None ∷ Some (nth_job 1 2) ∷ Some (nth_job 1 2) ∷ []
 worked_row = refl
 
 -- a tick of a stretch of equal ticks
@@ -37,7 +38,7 @@ tick_idle front count t from =
 pub record IsNextRun (log : Ticks) (cost number at a : ℕ) : Type 0 where
   pub from : at ≤ a
   pub idle : (t : ℕ) → at ≤ t → t < a → tick log t ≡ None
-  pub busy : (t : ℕ) → a ≤ t → t < a + cost → tick log t ≡ Some (nth_job number)
+  pub busy : (t : ℕ) → a ≤ t → t < a + cost → tick log t ≡ Some (nth_job 1 number)
 
 -- from `at` on, the log's ticks are idle but for the jobs of these times, numbered on from n
 abbrev pub RunFrom : Ticks → ℕ → ℕ → ℕ → List ℕ → Type 0
@@ -47,22 +48,22 @@ RunFrom log cost n at (a ∷ times) = IsNextRun log cost (suc n) at a × RunFrom
 -- a log that grows by the next job
 pub alone_step : (cost n a : ℕ) (times : List ℕ) (so_far whole : Ticks) →
     so_far ++ alone_from cost n (length so_far) (a ∷ times) ≡ whole →
-    ((so_far ++ replicate (a - length so_far) None) ++ replicate cost (Some (nth_job (suc n)))) ++ alone_from cost (suc n) (a + cost) times ≡ whole
+    ((so_far ++ replicate (a - length so_far) None) ++ replicate cost (Some (nth_job 1 (suc n)))) ++ alone_from cost (suc n) (a + cost) times ≡ whole
 alone_step cost n a times so_far whole e =
     let idle : Ticks = replicate (a - length so_far) None in
-    let run : Ticks = replicate cost (Some (nth_job (suc n))) in
+    let run : Ticks = replicate cost (Some (nth_job 1 (suc n))) in
     let rest = alone_from cost (suc n) (a + cost) times in
     append_assoc (so_far ++ idle) run rest ∙ append_assoc so_far idle (run ++ rest) ∙ e
 
 pub alone_step_long : (cost n a : ℕ) (so_far : Ticks) → length so_far ≤ a →
-    length ((so_far ++ replicate (a - length so_far) None) ++ replicate cost (Some (nth_job (suc n)))) ≡ a + cost
+    length ((so_far ++ replicate (a - length so_far) None) ++ replicate cost (Some (nth_job 1 (suc n)))) ≡ a + cost
 alone_step_long cost n a so_far h =
     let idle : Ticks = replicate (a - length so_far) None in
-    let run : Ticks = replicate cost (Some (nth_job (suc n))) in
+    let run : Ticks = replicate cost (Some (nth_job 1 (suc n))) in
     let x = length-append (so_far ++ idle) run in
     let y = length-append so_far idle in
     let z = length-replicate {A = Option Job} (a - length so_far) None in
-    let w = length-replicate cost (Some (nth_job (suc n))) in
+    let w = length-replicate cost (Some (nth_job 1 (suc n))) in
     omega arith
 
 module _ (cost period : ℕ) (most : cost ≤ period) where
@@ -70,7 +71,7 @@ module _ (cost period : ℕ) (most : cost ≤ period) where
       RunFrom (front ++ (alone_from cost n (length front) times ++ replicate k None)) cost n (length front) times
   run_from n from [] front k apart h = λ t ge. tick_idle front k t ge
   run_from n from (a ∷ times) front k apart h =
-      let j = Some (nth_job (suc n)) in
+      let j = Some (nth_job 1 (suc n)) in
       let idle : Ticks = replicate (a - length front) None in
       let run : Ticks = replicate cost j in
       let rest = alone_from cost (suc n) (a + cost) times in
@@ -104,7 +105,7 @@ module _ (log : Ticks) (cost : ℕ) where
   run_at_once n at [] runs t item is r = absurd is
   run_at_once n at (a ∷ times) runs t item is r =
       ⊎_elim
-      (λ (e : item ≡ record { job = nth_job (suc n); arrival = a; cost = cost }).
+      (λ (e : item ≡ record { job = nth_job 1 (suc n); arrival = a; cost = cost }).
       let P : PlanItem → Type 0 = λ y. IsInRun t y → tick log t ≡ Some y.job in
       subst P (sym e) (λ q. runs.0.busy t q.from q.to) r)
       (λ (m : Has (items_from cost (suc n) times) item). run_at_once (suc n) (a + cost) times runs.1 t item m r)
@@ -117,7 +118,7 @@ module _ (log : Ticks) (cost : ℕ) where
       ⊎_elim
       (λ (early : t < a). let i = runs.0.idle t h early in cc)
       (λ (come : a ≤ t). ⊎_elim
-      (λ (now : t < a + cost). let b = runs.0.busy t come now in (record { job = nth_job (suc n); arrival = a; cost = cost }, inl refl, cc, record { from = come; to = now }))
+      (λ (now : t < a + cost). let b = runs.0.busy t come now in (record { job = nth_job 1 (suc n); arrival = a; cost = cost }, inl refl, cc, record { from = come; to = now }))
       (λ (late : a + cost ≤ t). let r = run_only (suc n) (a + cost) times runs.1 t job late e in (r.0, inr r.1, r.2, r.3))
       (cases_lt t (a + cost)))
       (cases_lt t a)
@@ -132,7 +133,7 @@ pub one_from : (cost n : ℕ) (times : List ℕ) (item : PlanItem) → Has (item
 one_from cost n [] item is = absurd is
 one_from cost n (a ∷ times) item is =
     ⊎_elim
-    (λ (e : item ≡ record { job = nth_job (suc n); arrival = a; cost = cost }).
+    (λ (e : item ≡ record { job = nth_job 1 (suc n); arrival = a; cost = cost }).
     let P : PlanItem → Type 0 = λ y. IsOneFrom cost n y in
     subst P (sym e) (record { task = refl; number = omega arith; costs = refl }))
     (λ (m : Has (items_from cost (suc n) times) item). let r = one_from cost (suc n) times item m in let l = r.number in record { task = r.task; number = omega arith; costs = r.costs })
@@ -142,7 +143,7 @@ one_from cost n (a ∷ times) item is =
 pub one_number : (cost n : ℕ) (times : List ℕ) (a b : PlanItem) → Has (items_from cost n times) a → Has (items_from cost n times) b → a.job.number ≡ b.job.number → a ≡ b
 one_number cost n [] a b ha hb e = absurd ha
 one_number cost n (x ∷ times) a b ha hb e =
-    let head : PlanItem = record { job = nth_job (suc n); arrival = x; cost = cost } in
+    let head : PlanItem = record { job = nth_job 1 (suc n); arrival = x; cost = cost } in
     ⊎_elim
     (λ (p : a ≡ head). ⊎_elim
     (λ (q : b ≡ head). p ∙ sym q)

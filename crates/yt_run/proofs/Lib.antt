@@ -2,6 +2,7 @@ mod Worked
 pub mod Alone
 pub mod AloneTicks
 pub mod AtOnce
+pub mod Faithful
 pub mod FirstLemmas
 pub mod Pieces
 pub mod PrintedLines

@@ -15,7 +15,8 @@ use Rattle.yt_log.specs.Ticks.{Ticks, IsLawful}
 use Rattle.yt_log.proofs.SegmentLemmas.{ticks_of-segments_of}
 use Rattle.yt_serial.specs.declared.shown.OutLine.{OutLine}
 use Rattle.yt_serial.specs.declared.trace.Message.{Message}
-use Rattle.yt_run.specs.Alone.{alone_from, items_from, nth_job}
+use Rattle.yt_run.specs.Alone.{alone_from, items_from}
+use Rattle.yt_serial.specs.Beginnings.{nth_job}
 use Rattle.yt_run.specs.First.{the_port, the_period, IsFirstGraph, FitsFirst, KeepsPeriod, line_with}
 use Rattle.yt_run.specs.Readable.{HasReadableNames}
 use Rattle.yt_run.specs.RunText.{run_text, read_back}
@@ -32,7 +33,7 @@ few_from : (cost n : ℕ) (times : List ℕ) (item : PlanItem) → Has (items_fr
 few_from cost n [] item is = absurd is
 few_from cost n (a ∷ times) item is =
     ⊎_elim
-    (λ (e : item ≡ record { job = nth_job (suc n); arrival = a; cost = cost }).
+    (λ (e : item ≡ record { job = nth_job 1 (suc n); arrival = a; cost = cost }).
     let P : PlanItem → Type 0 = λ y. y.job.number ≤ n + suc (length times) in
     subst P (sym e) (omega arith))
     (λ (m : Has (items_from cost (suc n) times) item). let r = few_from cost (suc n) times item m in omega arith)

@@ -17,8 +17,8 @@ use Rattle.yt_log.proofs.Appends.{jobs_none}
 use Rattle.yt_rates.specs.Tables.{tasks_of}
 use Rattle.yt_serial.specs.declared.shown.OutLine.{OutLine}
 use Rattle.yt_serial.specs.declared.trace.Message.{Message}
-use Rattle.yt_run.specs.Alone.{TimesAreApart, TimesAreApartFrom, alone_from, items_from, nth_job, one_task, RunsAlone}
-use Rattle.yt_serial.specs.Beginnings.{order_of}
+use Rattle.yt_run.specs.Alone.{TimesAreApart, TimesAreApartFrom, alone_from, items_from, one_task, RunsAlone}
+use Rattle.yt_serial.specs.Beginnings.{nth_job, order_of}
 use Rattle.yt_run.specs.First.{First, the_port, the_period, IsFirstGraph, IsSent, FitsFirst, KeepsPeriod, AreFirstMessages, AreSpaced, graph_of, port_of, leaf, sum_after, line_with}
 use Rattle.yt_serial.specs.PortMessages.{PortMessage}
 use Rattle.yt_serial.specs.SerialHandling.{Handled, Serial, messages_at, handled_of, start, serial_run, plan_of, handled_along, plan_of_log}
@@ -71,9 +71,9 @@ latest-push (o ∷ outs) line h = let rest = latest-push outs line (omega arith)
 -- one message more
 pub goes_on : (cost period : ℕ) (e : ExprTree) (trace : List Message) (m : Message) (rest : List Message) (i : ℕ) (log : Ticks) (outs : List OutLine) (end : ℕ) →
     cost ≤ period → period ≤ 1000000 → IsUnderWay cost period e trace (m ∷ rest) i log outs end →
-    IsUnderWay cost period e trace rest (suc i) ((log ++ replicate (m.time - length log) None) ++ replicate cost (Some (nth_job (suc i)))) (outs ++ line_with e period m ∷ []) (m.time + period)
+    IsUnderWay cost period e trace rest (suc i) ((log ++ replicate (m.time - length log) None) ++ replicate cost (Some (nth_job 1 (suc i)))) (outs ++ line_with e period m ∷ []) (m.time + period)
 goes_on cost period e trace m rest i log outs end most few h =
-    let so_far = (log ++ replicate (m.time - length log) None) ++ replicate cost (Some (nth_job (suc i))) in
+    let so_far = (log ++ replicate (m.time - length log) None) ++ replicate cost (Some (nth_job 1 (suc i))) in
     let here = h.apart.0 in
     let short = h.short in
     let ended = h.ended in
@@ -104,7 +104,7 @@ handled_all d trace log messages order =
 
 jobs_of-all : (cost n : ℕ) (times : List ℕ) → jobs_of 1 (items_from cost n times) ≡ length times
 jobs_of-all cost n [] = jobs_none 1
-jobs_of-all cost n (a ∷ times) = jobs_of-one (record { job = nth_job (suc n); arrival = a; cost = cost }) (items_from cost (suc n) times) refl ∙ ap suc (jobs_of-all cost (suc n) times)
+jobs_of-all cost n (a ∷ times) = jobs_of-one (record { job = nth_job 1 (suc n); arrival = a; cost = cost }) (items_from cost (suc n) times) refl ∙ ap suc (jobs_of-all cost (suc n) times)
 
 all_handled : (d : First) (trace : List Message) → AllHandled (graph_of d) (all_come d trace)
 all_handled d trace port from_one in_graph =
@@ -192,9 +192,9 @@ goes_on_at cost period e items m i log idle run outs shown line end most few ins
     let here = subst (λ left. IsUnderWay cost period e items left i log outs end) cut h in
     let next = goes_on cost period e items m (drop (i + 1) items) i log outs end most few here in
     let count : suc i ≡ i + 1 = omega arith in
-    let by_count = subst (λ (n : ℕ). IsUnderWay cost period e items (drop (i + 1) items) n ((log ++ replicate (m.time - length log) None) ++ replicate cost (Some (nth_job n))) (outs ++ line_with e period m ∷ []) (m.time + period)) count next in
-    let run_here : (log ++ replicate (m.time - length log) None) ++ replicate cost (Some (nth_job (i + 1))) ≡ run =
-    ap (λ (x : Ticks). x ++ replicate cost (Some (nth_job (i + 1)))) (sym idle_is) ∙ sym run_is in
+    let by_count = subst (λ (n : ℕ). IsUnderWay cost period e items (drop (i + 1) items) n ((log ++ replicate (m.time - length log) None) ++ replicate cost (Some (nth_job 1 n))) (outs ++ line_with e period m ∷ []) (m.time + period)) count next in
+    let run_here : (log ++ replicate (m.time - length log) None) ++ replicate cost (Some (nth_job 1 (i + 1))) ≡ run =
+    ap (λ (x : Ticks). x ++ replicate cost (Some (nth_job 1 (i + 1)))) (sym idle_is) ∙ sym run_is in
     let shown_here : outs ++ line_with e period m ∷ [] ≡ shown = ap (λ x. outs ++ x ∷ []) (sym line_is) ∙ sym shown_is in
     let by_run = subst (λ (x : Ticks). IsUnderWay cost period e items (drop (i + 1) items) (i + 1) x (outs ++ line_with e period m ∷ []) (m.time + period)) run_here by_count in
     subst (λ (x : List OutLine). IsUnderWay cost period e items (drop (i + 1) items) (i + 1) run x (m.time + period)) shown_here by_run

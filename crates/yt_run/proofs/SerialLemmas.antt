@@ -13,7 +13,8 @@ use Rattle.yt_log.specs.Plan.{jobs_of}
 use Rattle.yt_log.proofs.Appends.{jobs_push_same}
 use Rattle.yt_serial.specs.declared.shown.OutLine.{OutLine}
 use Rattle.yt_serial.specs.declared.trace.Message.{Message}
-use Rattle.yt_run.specs.Alone.{nth_job, items_from}
+use Rattle.yt_serial.specs.Beginnings.{nth_job}
+use Rattle.yt_run.specs.Alone.{items_from}
 use Rattle.yt_run.specs.First.{First, port_of, graph_of, leaf, sum_after, AreFirstMessages}
 use Rattle.yt_serial.specs.PortMessages.{PortMessage, messages_of, passed}
 use Rattle.yt_serial.specs.SerialHandling.{Handled, Serial, message_of, all_shown, handle_message, serial_step, serial_run}
@@ -56,7 +57,7 @@ jobs_from d n trace = map (λ (i : PlanItem). i.job) (items_from (cost_of d) n (
 
 -- a job handled a message
 abbrev handled_one : First → ℕ → Message → Handled
-handled_one d number m = record { item = record { job = nth_job number; arrival = m.time; cost = cost_of d }; writes = [] }
+handled_one d number m = record { item = record { job = nth_job 1 number; arrival = m.time; cost = cost_of d }; writes = [] }
 
 abbrev pub handled_from : First → ℕ → List Message → List Handled
 handled_from d n [] = []
@@ -64,7 +65,7 @@ handled_from d n (m ∷ trace) = handled_one d (suc n) m ∷ handled_from d (suc
 
 pub items_handled : (d : First) (n : ℕ) (trace : List Message) → map (λ (h : Handled). h.item) (handled_from d n trace) ≡ items_from (cost_of d) n (times_of trace)
 items_handled d n [] = refl
-items_handled d n (m ∷ trace) = ap (λ (is : List PlanItem). (record { job = nth_job (suc n); arrival = m.time; cost = cost_of d }) ∷ is) (items_handled d (suc n) trace)
+items_handled d n (m ∷ trace) = ap (λ (is : List PlanItem). (record { job = nth_job 1 (suc n); arrival = m.time; cost = cost_of d }) ∷ is) (items_handled d (suc n) trace)
 
 -- how far serial handling has come, by the port's messages, those that were handled and what was shown
 abbrev pub come : List PortMessage → List Handled → List OutLine → Serial
@@ -89,12 +90,12 @@ shown_one d n m =
 -- one message more is handled
 one_step : (d : First) (messages : List PortMessage) (so_far : List PortMessage) (m : Message) (rest : List PortMessage) (handled : List Handled) (lines : List OutLine)
     → messages ≡ so_far ++ at_port m ∷ rest → jobs_of 1 (map (λ (h : Handled). h.item) handled) ≡ length so_far
-    → serial_step (graph_of d) (nth_job (suc (length so_far))) (come messages handled lines)
+    → serial_step (graph_of d) (nth_job 1 (suc (length so_far))) (come messages handled lines)
     ≡ Some (come messages (handled ++ handled_one d (suc (length so_far)) m ∷ []) (lines ++ line_of d m ∷ []))
 one_step d messages so_far m rest handled lines is count =
     let n = length so_far in
     let s = come messages handled lines in
-    let job = nth_job (suc n) in
+    let job = nth_job 1 (suc n) in
     let found : slice_get messages n ≡ Some (at_port m) = ap (λ ms. slice_get ms n) is ∙ get_at so_far (at_port m) rest in
     let test : eqb (suc n) (suc (jobs_of 1 (map (λ (h : Handled). h.item) handled))) ≡ true = eq-eqb _ _ (ap suc (sym count)) in
     let here : message_of job s ≡ Some (at_port m) = cond-true (eqb (suc n) (suc (jobs_of 1 (map (λ (h : Handled). h.item) handled)))) (slice_get messages n) None test ∙ found in
@@ -114,12 +115,12 @@ pub handles_all : (d : First) (messages so_far : List PortMessage) (rest : List 
 handles_all d messages so_far [] handled lines n is at count =
     ap (λ (x : Serial). Some x) (come_same messages messages handled (handled ++ []) lines (lines ++ []) refl (sym (append-nil handled)) (sym (append-nil lines)))
 handles_all d messages so_far (m ∷ rest) handled lines n is at count =
-    let job = nth_job (suc n) in
+    let job = nth_job 1 (suc n) in
     let item : PlanItem = record { job = job; arrival = m.time; cost = cost_of d } in
     let more = handled ++ handled_one d (suc n) m ∷ [] in
     let shown = lines ++ line_of d m ∷ [] in
     let s = come messages handled lines in
-    let P : ℕ → Type 0 = λ k. serial_step (graph_of d) (nth_job (suc k)) s ≡ Some (come messages (handled ++ handled_one d (suc k) m ∷ []) shown) in
+    let P : ℕ → Type 0 = λ k. serial_step (graph_of d) (nth_job 1 (suc k)) s ≡ Some (come messages (handled ++ handled_one d (suc k) m ∷ []) shown) in
     let step : serial_step (graph_of d) job s ≡ Some (come messages more shown) = subst P (sym at) (one_step d messages so_far m (map at_port rest) handled lines is (count ∙ at)) in
     let split : messages ≡ (so_far ++ at_port m ∷ []) ++ map at_port rest = is ∙ sym (append_assoc so_far (at_port m ∷ []) (map at_port rest)) in
     let long : suc n ≡ length (so_far ++ at_port m ∷ []) = grind (arith, common_steps) in

@@ -7,15 +7,11 @@ use Rattle.yt_log.specs.EdfDdm.{IsEdfDdm}
 use Rattle.yt_log.specs.Plan.{IsLegal}
 use Rattle.yt_log.specs.Tasks.{Has}
 use Rattle.yt_log.specs.Ticks.{Ticks, done, first_tick, IsLawful, IsWorkConserving, IsExclusive, KeepsDeadlines}
-use Rattle.yt_serial.specs.Beginnings.{order_of}
+use Rattle.yt_serial.specs.Beginnings.{nth_job, order_of}
 
 -- the set of one task under no resource
 abbrev pub one_task : ℕ → ℕ → List Task
 one_task cost period = (record { cost = cost; period = period; resource = 0 }) ∷ []
-
--- the first task's job of a number, from 1
-abbrev pub nth_job : ℕ → Job
-nth_job number = record { task = 1; number = number }
 
 -- the first of the times is no earlier than `from`, and each later one at least a period after the one before
 abbrev pub TimesAreApartFrom : ℕ → ℕ → List ℕ → Type 0
@@ -29,13 +25,13 @@ TimesAreApart period times = TimesAreApartFrom period 0 times
 -- the jobs that arrive at these times, each of this cost, numbered on from n
 abbrev pub items_from : ℕ → ℕ → List ℕ → List PlanItem
 items_from cost n [] = []
-items_from cost n (a ∷ times) = (record { job = nth_job (suc n); arrival = a; cost = cost }) ∷ items_from cost (suc n) times
+items_from cost n (a ∷ times) = (record { job = nth_job 1 (suc n); arrival = a; cost = cost }) ∷ items_from cost (suc n) times
 
 -- the ticks from `at` on in which these jobs run, each from its arrival, and that are idle in between
 abbrev pub alone_from : ℕ → ℕ → ℕ → List ℕ → Ticks
 alone_from cost n at [] = []
 alone_from cost n at (a ∷ times) =
-    replicate (a - at) None ++ (replicate cost (Some (nth_job (suc n))) ++ alone_from cost (suc n) (a + cost) times)
+    replicate (a - at) None ++ (replicate cost (Some (nth_job 1 (suc n))) ++ alone_from cost (suc n) (a + cost) times)
 
 -- what holds of a set, a legal plan and its log where the jobs run alone
 pub record RunsAlone (tasks : List Task) (plan : List PlanItem) (log : Ticks) : Type 0 where

@@ -6,9 +6,11 @@
 #![tactic(auto)]
 
 mod first;
+mod laws;
 mod run;
 mod told;
 
 pub use first::{first_cost, first_period};
+pub use laws::faithful_texts;
 pub use run::run_first;
 pub use told::Told;
