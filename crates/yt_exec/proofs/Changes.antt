@@ -8,7 +8,7 @@ use Rattle.yt_log.specs.Tasks.{Has}
 use Rattle.yt_log.specs.Plan.{same_job, its_task, jobs_of, IsNext, IsLegalAfter, IsLegal}
 use Rattle.yt_log.specs.Ticks.{Ticks, done}
 use Rattle.yt_log.specs.Laws.{IsLike, AreLike}
-use Rattle.yt_log.proofs.Jobs.{same_job_true, same_job_refl}
+use Rattle.yt_log.proofs.Jobs.{cases_job, same_job_true, same_job_refl}
 use Rattle.yt_log.proofs.Plans.{jobs_of-cons}
 use Rattle.yt_exec.specs.declared.executive.Release.{Release}
 use Rattle.yt_exec.specs.Bodies.{task_in}
@@ -41,7 +41,7 @@ changed_yes job c i e =
     let s : same_job i.job job ≡ true = subst (λ (j : Job). same_job i.job j ≡ true) e (same_job_refl i.job) in
     ap (λ (x : PlanItem). x.cost) (cond-true (same_job i.job job) (record i { cost = c }) i s)
 
-changed_is : (job : Job) (c : ℕ) (i : PlanItem) → i.job ≡ job → changed job c i ≡ record i { cost = c }
+pub changed_is : (job : Job) (c : ℕ) (i : PlanItem) → i.job ≡ job → changed job c i ≡ record i { cost = c }
 unfolding changed
 changed_is job c i e = cond-true (same_job i.job job) (record i { cost = c }) i (subst (λ (j : Job). same_job i.job j ≡ true) e (same_job_refl i.job))
 
@@ -50,17 +50,9 @@ unfolding changed
 changed_no job c i ne =
     cond-false (same_job i.job job) (record i { cost = c }) i (false_from_ne_true (same_job i.job job) (λ h. ne (same_job_true i.job job h)))
 
--- two jobs are one or not
-pub one_or_not : (a b : Job) → (a ≡ b) ⊎ (a ≡ b → ⊥)
-one_or_not a b =
-    ⊎_elim
-    (λ (e : same_job a b ≡ true). inl (same_job_true a b e))
-    (λ (e : same_job a b ≡ false). inr (λ q. both_ways (same_job a b) e (subst (λ (j : Job). same_job a j ≡ true) q (same_job_refl a))))
-    (cases_Bool (same_job a b))
-
 -- an item is of the job or not
 pub job_or_not : (i : PlanItem) (job : Job) → (i.job ≡ job) ⊎ (i.job ≡ job → ⊥)
-job_or_not i job = one_or_not i.job job
+job_or_not i job = cases_job i.job job
 
 pub with_cost-cons : (job : Job) (c : ℕ) (x : PlanItem) (xs : List PlanItem) → with_cost job c (x ∷ xs) ≡ changed job c x ∷ with_cost job c xs
 unfolding with_cost changed

@@ -1,3 +1,4 @@
+pub mod Lemmas
 mod Changes
 mod Countings
 mod LongerLogs

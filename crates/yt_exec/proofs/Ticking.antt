@@ -16,7 +16,7 @@ use Rattle.yt_ready.specs.Waiting.{HasOneMore}
 use Rattle.yt_exec.specs.Bodies.{IsKnown, IsFree, task_in, GivesTick, MayStillBegin}
 use Rattle.yt_exec.specs.Moments.{Moment, job_in, after_tick, IsSound}
 use Rattle.yt_exec.specs.StandsFor.{entry_of, StandsFor, GoesOn, IsBodyOf, with_cost}
-use Rattle.yt_exec.proofs.Changes.{one_or_not}
+use Rattle.yt_log.proofs.Jobs.{cases_job}
 use Rattle.yt_exec.proofs.LongerLogs.{entry_begun, entry_not}
 use Rattle.yt_exec.proofs.Sounds.{resource_free}
 use Rattle.yt_exec.proofs.Standing.{ended_stands, goes_on_stands, with_stands, with_legal, with_rule, with_right}
@@ -89,7 +89,7 @@ module _ (old : Moment) (sound : IsSound old.tasks old.entries old.clock old.rel
         only = λ j busy. ⊎_elim
             (λ (q : job_in e ≡ j). (after_tick old.tasks old.clock e, put.added, refl, q))
             (λ (ne : job_in e ≡ j → ⊥). let o = busy_other j busy (λ q. ne (sym q)) in (o.0, put.kept o.0 o.1, o.2, o.3))
-            (one_or_not (job_in e) j);
+            (cases_job (job_in e) j);
         waiting = λ x has not. ⊎_elim
             (λ (q : x ≡ after_tick old.tasks old.clock e). let b : x.begun ≡ true = ap (λ (y : Entry). y.begun) q in absurd (both_ways x.begun not b))
             (λ (h : Contains less x). less_waiting x h not)

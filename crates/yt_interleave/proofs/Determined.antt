@@ -16,7 +16,8 @@ use Rattle.yt_serial.specs.PortMessages.{PortMessage, numbered}
 use Rattle.yt_serial.specs.SerialHandling.{Serial, messages_at, brought, start, plan_of_log, handled_along}
 use Rattle.yt_serial.specs.Told.{IsPromisedRun}
 use Rattle.yt_serial.specs.Variables.{variables_at}
-use Rattle.yt_serial.proofs.Lemmas.{Agree, IsRuleRun, agree_to, feed_cases, get_cases, placed_at, port_there, promised_is}
+use Rattle.yt_log.proofs.Made.{Agree}
+use Rattle.yt_serial.proofs.Lemmas.{IsRuleRun, agree_to, feed_cases, get_cases, placed_at, port_there, promised_is}
 use Rattle.yt_interleave.specs.Interleaved as own
 use Rattle.yt_interleave.specs.Interleaved.{Begun, passes_of}
 use Rattle.yt_interleave.specs.Runs.{IsRunning, StartsWith, RunsAgree}

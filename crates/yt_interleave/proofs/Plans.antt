@@ -12,25 +12,26 @@ use Rattle.yt_log.specs.Plan.{same_job, IsLegal}
 use Rattle.yt_log.specs.Tasks.{Has}
 use Rattle.yt_log.specs.Ticks.{Ticks, done, IsWaiting}
 use Rattle.yt_log.proofs.Choices.{IsLeast, least_is, waits_true, waits_from}
-use Rattle.yt_log.proofs.Jobs.{same_job_true, same_job_refl}
+use Rattle.yt_log.proofs.Jobs.{same_job_true, same_job_refl, cases_job}
 use Rattle.yt_log.proofs.Leasts.{rule_is_least}
 use Rattle.yt_log.proofs.Appends.{has_push}
 use Rattle.yt_log.proofs.Plans.{one_item}
 use Rattle.yt_exec.specs.StandsFor.{item_at, with_cost}
+use Rattle.yt_exec.proofs.Lemmas.{changed, changed_arrival, changed_is, changed_job, changed_no, has_from, has_with}
 use Rattle.yt_rates.specs.Rates.{period_of}
 use Rattle.yt_rates.specs.Tables.{tasks_of}
 use Rattle.yt_serial.specs.declared.trace.Message.{Message}
 use Rattle.yt_serial.specs.Beginnings.{order_of, nth_job}
 use Rattle.yt_serial.specs.PortMessages.{PortMessage, numbered}
 use Rattle.yt_serial.specs.SerialHandling.{Handled, Serial, items_of, brought, handle_message}
-use Rattle.yt_serial.proofs.Lemmas.{placed_at, placed-length, port_there, get_cases, numbered_left, length_push, cases_job}
+use Rattle.yt_serial.proofs.Lemmas.{placed_at, placed-length, port_there, get_cases, numbered_left, length_push}
 use Rattle.yt_interleave.specs.Interleaved as own
 use Rattle.yt_interleave.specs.Interleaved.{Begun, Moment, port_at, known_at, whole_of, item_of, passes_of, with_begun, with_tick, with_end, with_idle, StandsFor}
 use Rattle.yt_serial.specs.Laws.{CanRun}
 use Rattle.yt_interleave.specs.Moves.{MayBegin, after_tick, begun_of, Interleaves, IsOver}
 use Rattle.yt_interleave.specs.Timing.{GoesWith}
 use Rattle.yt_interleave.proofs.Begin as begin
-use Rattle.yt_log.proofs.Members.{has_left}
+use Rattle.yt_log.proofs.Members.{has_append, has_left, has_right}
 use Rattle.yt_interleave.proofs.Steps.{after_last, after_other}
 use Rattle.yt_interleave.proofs.Timing.{passes_late, known_port}
 
@@ -55,45 +56,9 @@ pub rule_same : (tasks : List Task) (plan other : List PlanItem) (log : Ticks) �
     → IsEdfDdm tasks plan log → IsEdfDdm tasks other log
 rule_same tasks plan other log into back rule t lt = rule t lt ∙ choice_same tasks plan other log t into back
 
--- an item with another cost
-changed : Job → ℕ → PlanItem → PlanItem
-changed job c z = cond (same_job z.job job) (record z { cost = c }) z
-
-has_with : (job : Job) (c : ℕ) (xs : List PlanItem) (z : PlanItem) → Has (with_cost job c xs) z → (y : PlanItem) × (Has xs y) × (z ≡ changed job c y)
-unfolding with_cost changed
-has_with job c [] z has = absurd has
-has_with job c (x ∷ xs) z has =
-    ⊎_elim
-    (λ (e : z ≡ changed job c x). (x, inl refl, e))
-    (λ (h : Has (with_cost job c xs) z). let r = has_with job c xs z h in (r.0, inr r.1, r.2))
-    has
-
-with_has : (job : Job) (c : ℕ) (xs : List PlanItem) (z : PlanItem) → Has xs z → Has (with_cost job c xs) (changed job c z)
-unfolding with_cost changed
-with_has job c [] z has = absurd has
-with_has job c (x ∷ xs) z has =
-    ⊎_elim (λ (e : z ≡ x). inl (ap (changed job c) e)) (λ (h : Has xs z). inr (with_has job c xs z h)) has
-
-changed_no : (job : Job) (c : ℕ) (z : PlanItem) → (z.job ≡ job → ⊥) → changed job c z ≡ z
-unfolding changed
-changed_no job c z ne = cond-false (same_job z.job job) (record z { cost = c }) z (false_from_ne_true (same_job z.job job) (λ h. ne (same_job_true z.job job h)))
-
-changed_yes : (job : Job) (c : ℕ) (z : PlanItem) → z.job ≡ job → changed job c z ≡ record z { cost = c }
-unfolding changed
-changed_yes job c z e = cond-true (same_job z.job job) (record z { cost = c }) z (subst (λ (j : Job). same_job z.job j ≡ true) e (same_job_refl z.job))
-
 -- items of other jobs stay
 pub with_other : (job : Job) (c : ℕ) (plan : List PlanItem) (z : PlanItem) → (z.job ≡ job → ⊥) → Has plan z → Has (with_cost job c plan) z
-with_other job c plan z ne has = subst (λ (x : PlanItem). Has (with_cost job c plan) x) (changed_no job c z ne) (with_has job c plan z has)
-
--- it keeps its job and its arrival
-changed_same : (job : Job) (c : ℕ) (z : PlanItem) → ((changed job c z).job ≡ z.job) × ((changed job c z).arrival ≡ z.arrival)
-changed_same job c z =
-    let P : PlanItem → Type 0 = λ x. (x.job ≡ z.job) × (x.arrival ≡ z.arrival) in
-    ⊎_elim
-    (λ (e : z.job ≡ job). subst P (sym (changed_yes job c z e)) (refl, refl))
-    (λ (ne : z.job ≡ job → ⊥). subst P (sym (changed_no job c z ne)) (refl, refl))
-    (cases_job z.job job)
+with_other job c plan z ne has = subst (λ (x : PlanItem). Has (with_cost job c plan) x) (changed_no job c z ne) (has_from job c plan z has)
 
 -- what is known of each item and of each message
 abbrev IsKnownIn : Moment → PlanItem → Type 0
@@ -110,25 +75,13 @@ pub releases : (s : Serial) (r : Moment) (plan new : List PlanItem) → GoesWith
     → GoesWith s r (suc (length r.log)) (plan ++ new)
 releases s r plan new goes known now all = record {
   begun = λ z has. has_left plan new z (goes.begun z has);
-  known = λ z has. ⊎_elim (λ (h : Has plan z). goes.known z h) (λ (h : Has new z). known z h) (has_either plan new z has);
-  early = λ z has. ⊎_elim (λ (h : Has plan z). let e = goes.early z h in omega arith) (λ (h : Has new z). let e = now z h in omega arith) (has_either plan new z has);
+  known = λ z has. ⊎_elim (λ (h : Has plan z). goes.known z h) (λ (h : Has new z). known z h) (has_append plan new z has);
+  early = λ z has. ⊎_elim (λ (h : Has plan z). let e = goes.early z h in omega arith) (λ (h : Has new z). let e = now z h in omega arith) (has_append plan new z has);
   all = λ port n m there lt. ⊎_elim
       (λ (e : m.time ≡ length r.log). let z = all port n m there e in (z.0, has_right plan new z.0 z.1, z.2))
       (λ (ne : m.time ≡ length r.log → ⊥). let z = goes.all port n m there (omega arith) in (z.0, has_left plan new z.0 z.1, z.2))
       (cases_eq m.time (length r.log));
 }
-  where
-    has_either : (xs ys : List PlanItem) (z : PlanItem) → Has (xs ++ ys) z → Has xs z ⊎ Has ys z
-    has_either [] ys z h = inr h
-    has_either (x ∷ xs) ys z h =
-        ⊎_elim
-        (λ (e : z ≡ x). inl (inl e))
-        (λ (k : Has (xs ++ ys) z). ⊎_elim (λ (l : Has xs z). inl (inr l)) (λ (l : Has ys z). inr l) (has_either xs ys z k))
-        h
-
-    has_right : (xs ys : List PlanItem) (z : PlanItem) → Has ys z → Has (xs ++ ys) z
-    has_right [] ys z h = h
-    has_right (x ∷ xs) ys z h = inr (has_right xs ys z h)
 
 -- a job's messages become known when it ends: none of them is due before its deadline
 module _ (g : GraphTree) (b : Begun) (r : Moment) (long : length r.messages ≡ length g.ports) (deadline : length r.log < b.message.time + period_of g (port_at g b.job.task)) where
@@ -215,30 +168,30 @@ begins g trace can s r is job m may plan due goes now =
           (λ (old : Has (items_of s) z).
           subst (λ (x : PlanItem). Has (with_cost job c plan) x)
           (changed_no job c z (λ e. begin.fresh g can.well_formed can.rates trace can.keeps (order_of r.log) s r is.stands job m may z old e))
-          (with_has job c plan z (goes.begun z old)))
+          (has_from job c plan z (goes.begun z old)))
           (λ (e : z ≡ item_of g b).
           let p = goes.all job.task job.number m may.there (omega arith) in
           let k = goes.known p.0 p.1 in
           let same : p.0.job ≡ job = p.2 in
           let at : m ≡ k.0 = same_Some m k.0 (sym may.there ∙ ap (λ (j : Job). numbered (known_at r j.task) j.number) (sym same) ∙ k.1) in
           let arrival : p.0.arrival ≡ m.time = sym (ap (λ (x : PortMessage). x.time) at ∙ k.2) in
-          let is : changed job c p.0 ≡ item_of g b = changed_yes job c p.0 same ∙ same_item p.0.job job p.0.arrival m.time c same arrival in
-          subst (λ (x : PlanItem). Has (with_cost job c plan) x) (is ∙ sym e) (with_has job c plan p.0 p.1))
+          let is : changed job c p.0 ≡ item_of g b = changed_is job c p.0 same ∙ same_item p.0.job job p.0.arrival m.time c same arrival in
+          subst (λ (x : PlanItem). Has (with_cost job c plan) x) (is ∙ sym e) (has_from job c plan p.0 p.1))
           (has_push (items_of s) (item_of g b) z (subst (λ (xs : List PlanItem). Has xs z) items has));
       known = λ z has.
           let y = has_with job c plan z has in
           let k = goes.known y.0 y.1 in
-          let keeps = changed_same job c y.0 in
+          let keeps : ((changed job c y.0).job ≡ y.0.job) × ((changed job c y.0).arrival ≡ y.0.arrival) = (changed_job job c y.0, changed_arrival job c y.0) in
           let same : z.job ≡ y.0.job = ap (λ (x : PlanItem). x.job) y.2 ∙ keeps.0 in
           (k.0, ap (λ (j : Job). numbered (known_at r j.task) j.number) same ∙ k.1, k.2 ∙ sym (ap (λ (x : PlanItem). x.arrival) y.2 ∙ keeps.1));
       early = λ z has.
           let y = has_with job c plan z has in
           let e = goes.early y.0 y.1 in
-          let a : z.arrival ≡ y.0.arrival = ap (λ (x : PlanItem). x.arrival) y.2 ∙ (changed_same job c y.0).1 in
+          let a : z.arrival ≡ y.0.arrival = ap (λ (x : PlanItem). x.arrival) y.2 ∙ changed_arrival job c y.0 in
           omega arith;
       all = λ port n x there lt.
           let z = goes.all port n x there lt in
-          (changed job c z.0, with_has job c plan z.0 z.1, (changed_same job c z.0).0 ∙ z.2);
+          (changed job c z.0, has_from job c plan z.0 z.1, changed_job job c z.0 ∙ z.2);
     }
   where
     same_item : (j k : Job) (a d c : ℕ) → j ≡ k → a ≡ d → item_at a j c ≡ item_at d k c

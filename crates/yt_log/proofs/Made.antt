@@ -10,10 +10,11 @@ use Rattle.yt_log.specs.Ticks.{Ticks, tick, names, done, first_tick}
 use Rattle.yt_log.specs.EdfDdm.{IsEdfDdm, current_deadline, rank, waits, least, job_of, choice, edf_ddm}
 use Rattle.yt_log.specs.Laws.{RuleMakesLogs, RuleIsDetermined}
 
+-- two logs have the same ticks below t
 abbrev pub Agree : Ticks → Ticks → ℕ → Type 0
 Agree a b t = (u : ℕ) → u < t → tick a u ≡ tick b u
 
-agree_less : (a b : Ticks) (t : ℕ) → Agree a b (suc t) → Agree a b t
+pub agree_less : (a b : Ticks) (t : ℕ) → Agree a b (suc t) → Agree a b t
 agree_less a b t h u l = h u (omega arith)
 
 pub done_same : (a b : Ticks) (j : Job) (t : ℕ) → Agree a b t → done a j t ≡ done b j t
@@ -21,7 +22,7 @@ unfolding done
 done_same a b j zero h = refl
 done_same a b j (suc t) h = ap₂ (λ (n : ℕ) (o : Option Job). n + cond (names o j) 1 0) (done_same a b j t (agree_less a b t h)) (h t (omega arith))
 
-first_same : (a b : Ticks) (j : Job) (t : ℕ) → Agree a b t → first_tick a j t ≡ first_tick b j t
+pub first_same : (a b : Ticks) (j : Job) (t : ℕ) → Agree a b t → first_tick a j t ≡ first_tick b j t
 unfolding first_tick
 first_same a b j zero h = refl
 first_same a b j (suc t) h = ap₂ (λ (n m : ℕ). cond (eqb n 0) t m) (done_same a b j t (agree_less a b t h)) (first_same a b j t (agree_less a b t h))

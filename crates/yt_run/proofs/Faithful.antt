@@ -6,7 +6,7 @@ use Rattle.yt_serial.specs.declared.shown.OutLine.{OutLine}
 use Rattle.yt_serial.specs.declared.trace.Message.{Message}
 use Rattle.yt_serial.specs.Judged.{IsJudgedRun, IsRunnable}
 use Rattle.yt_serial.specs.Told.{IsPromisedRun}
-use Rattle.yt_serial.proofs.Lemmas.{runs_are_judged}
+use Rattle.yt_serial.proofs.Lemmas.{judged, runs_are_judged}
 use Rattle.yt_run.specs.Laws.{IsFaithful, FaithfulTexts}
 use Rattle.yt_run.specs.RunText.{ReadBack, read_back, run_text}
 
@@ -14,25 +14,16 @@ own : (g : GraphTree) (trace : List Message) → IsRunnable g trace → (text : 
     → text ≡ run_text g log lines
 own g trace able text is log lines promised =
     let told = read_back g text in
-    let judged = (runs_are_judged.exact g trace able told.log told.lines).0 is.judged in
-    let same = runs_are_judged.one g trace able.can told.log log told.lines lines judged promised in
+    let promise = (runs_are_judged.exact g trace able told.log told.lines).0 is.judged in
+    let same = runs_are_judged.one g trace able.can told.log log told.lines lines promise promised in
     is.printed ∙ ap₂ (λ (l : Ticks) (o : List OutLine). run_text g l o) same.0 same.1
 
 kept : (g : GraphTree) (trace : List Message) (log : Ticks) (lines : List OutLine) → IsPromisedRun g trace log lines
     → read_back g (run_text g log lines) ≡ record { log = log; lines = lines } → IsFaithful g trace (run_text g log lines)
 kept g trace log lines p back =
     let text = run_text g log lines in
-    let judged : IsJudgedRun g trace log lines = record {
-      serial = p.tells.serial;
-      along = p.tells.along;
-      all = p.tells.all;
-      rule = p.edf_ddm;
-      finished = p.tells.finished;
-      shown = p.tells.shown;
-      ends = p.tells.ends;
-    } in
     record {
-      judged = subst (λ (r : ReadBack). IsJudgedRun g trace r.log r.lines) (sym back) judged;
+      judged = subst (λ (r : ReadBack). IsJudgedRun g trace r.log r.lines) (sym back) (judged g trace log lines p);
       printed = ap (λ (r : ReadBack). run_text g r.log r.lines) (sym back);
     }
 

@@ -26,11 +26,11 @@ use Rattle.yt_serial.specs.SerialHandling.{Serial, messages_at, items_of, handle
 use Rattle.yt_serial.specs.Told.{BeginsInOrder, IsPromisedRun, NoneReplaced}
 use Rattle.yt_serial.proofs.Done.{begun_fresh}
 use Rattle.yt_serial.proofs.Orders.{begun_done}
-use Rattle.yt_serial.proofs.SerialInvariant.{Holds}
+use Rattle.yt_serial.proofs.SerialInvariant.{Holds, port_task}
 use Rattle.yt_serial.proofs.SerialLaws.{log_plans_are_legal}
 use Rattle.yt_serial.proofs.SerialRuns.{serial_holds, stepped}
 use Rattle.yt_serial.proofs.SerialStates.{message_there, port_there}
-use Rattle.yt_serial.proofs.SerialSteps.{at_tick, from_start, in_items, port_task, run_rest}
+use Rattle.yt_serial.proofs.SerialSteps.{at_tick, from_start, in_items, run_rest}
 use Rattle.yt_serial.proofs.Spread.{numbered_apart}
 use Rattle.yt_serial.proofs.Unique.{runs_are_one}
 
@@ -143,7 +143,7 @@ module _ (g : GraphTree) (trace : List Message) (able : IsRunnable g trace) (log
         none_replaced = replaced;
       }
 
-judged : (g : GraphTree) (trace : List Message) (log : Ticks) (lines : List OutLine) → IsPromisedRun g trace log lines → IsJudgedRun g trace log lines
+pub judged : (g : GraphTree) (trace : List Message) (log : Ticks) (lines : List OutLine) → IsPromisedRun g trace log lines → IsJudgedRun g trace log lines
 judged g trace log lines p = record {
   serial = p.tells.serial;
   along = p.tells.along;

@@ -8,11 +8,12 @@ use Rattle.yt_log.specs.declared.job.Job.{Job}
 use Rattle.yt_log.specs.Plan.{same_job}
 use Rattle.yt_log.specs.Tasks.{Has}
 use Rattle.yt_log.specs.Ticks.{Ticks, tick, done}
-use Rattle.yt_log.proofs.Jobs.{same_job_true, same_job_refl}
+use Rattle.yt_log.proofs.Jobs.{same_job_other, same_job_refl}
 use Rattle.yt_log.proofs.Ticks.{done_yes, done_no, done_grows}
 use Rattle.yt_serial.specs.Laws.{VariablesStay}
 use Rattle.yt_serial.specs.SerialHandling.{Handled}
-use Rattle.yt_serial.proofs.Prefix.{Agree, agree_append, done_same, done-append}
+use Rattle.yt_log.proofs.Made.{Agree, done_same}
+use Rattle.yt_serial.proofs.Prefix.{agree_append, done-append}
 use Rattle.yt_serial.specs.Variables.{after_writes, writes_at, writes_of, writes_in, writes_below}
 
 pub writes_below-suc : (handled : List Handled) (log : Ticks) (t : ℕ) → writes_below handled log (suc t) ≡ writes_below handled log t ++ writes_in handled log t (tick log t)
@@ -42,16 +43,6 @@ writes_in_job handled log t j = refl
 pub writes_in_idle : (handled : List Handled) (log : Ticks) (t : ℕ) → writes_in handled log t None ≡ []
 unfolding writes_in
 writes_in_idle handled log t = refl
-
-same_job_other : (a b : Job) → (a ≡ b → ⊥) → same_job a b ≡ false
-same_job_other a b ne = false_from_ne_true (same_job a b) (λ e. ne (same_job_true a b e))
-
-pub cases_job : (a b : Job) → (a ≡ b) ⊎ (a ≡ b → ⊥)
-cases_job a b =
-    ⊎_elim
-    (λ (e : same_job a b ≡ true). inl (same_job_true a b e))
-    (λ (e : same_job a b ≡ false). inr (λ q. both_ways (same_job a b) e (subst (λ (x : Job). same_job a x ≡ true) q (same_job_refl a))))
-    (cases_Bool (same_job a b))
 
 -- the writes of another job
 pub writes_of_push_other : (handled : List Handled) (x : Handled) (j : Job) → (x.item.job ≡ j → ⊥) → writes_of (handled ++ x ∷ []) j ≡ writes_of handled j

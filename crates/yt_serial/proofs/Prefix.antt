@@ -3,24 +3,8 @@ use Rattle.std.proofs.Common.{◌≡◌, ℕ, zero, suc, ◌+◌, ◌<◌, ◌�
 use Rattle.std.proofs.lemmas.List.{get_or_append_left}
 use Rattle.yt_log.specs.declared.job.Job.{Job}
 use Rattle.yt_log.specs.Ticks.{Ticks, tick, names, done, first_tick}
+use Rattle.yt_log.proofs.Made.{Agree, agree_less, done_same, first_same}
 use Rattle.yt_serial.specs.Beginnings.{newcomer, begun_below, busy_until}
-
--- two logs have the same ticks below t
-abbrev pub Agree : Ticks → Ticks → ℕ → Type 0
-Agree a b t = (u : ℕ) → u < t → tick a u ≡ tick b u
-
-agree_less : (a b : Ticks) (t : ℕ) → Agree a b (suc t) → Agree a b t
-agree_less a b t h u l = h u (omega arith)
-
-pub done_same : (a b : Ticks) (j : Job) (t : ℕ) → Agree a b t → done a j t ≡ done b j t
-unfolding done
-done_same a b j zero h = refl
-done_same a b j (suc t) h = ap₂ (λ (n : ℕ) (o : Option Job). n + cond (names o j) 1 0) (done_same a b j t (agree_less a b t h)) (h t (omega arith))
-
-pub first_tick_same : (a b : Ticks) (j : Job) (t : ℕ) → Agree a b t → first_tick a j t ≡ first_tick b j t
-unfolding first_tick
-first_tick_same a b j zero h = refl
-first_tick_same a b j (suc t) h = ap₂ (λ (n m : ℕ). cond (eqb n 0) t m) (done_same a b j t (agree_less a b t h)) (first_tick_same a b j t (agree_less a b t h))
 
 newcomer_same : (a b : Ticks) (t : ℕ) (o : Option Job) → Agree a b t → newcomer a t o ≡ newcomer b t o
 unfolding newcomer
@@ -48,7 +32,7 @@ pub done-append : (log more : Ticks) (j : Job) (t : ℕ) → t ≤ length log �
 done-append log more j t h = done_same (log ++ more) log j t (agree_append log more t h)
 
 pub first_tick-append : (log more : Ticks) (j : Job) (t : ℕ) → t ≤ length log → first_tick (log ++ more) j t ≡ first_tick log j t
-first_tick-append log more j t h = first_tick_same (log ++ more) log j t (agree_append log more t h)
+first_tick-append log more j t h = first_same (log ++ more) log j t (agree_append log more t h)
 
 pub begun_below-append : (log more : Ticks) (t : ℕ) → t ≤ length log → begun_below (log ++ more) t ≡ begun_below log t
 begun_below-append log more t h = begun_same (log ++ more) log t (agree_append log more t h)

@@ -66,7 +66,7 @@ fed_period g well (suc k) p (suc from) out q there fed at =
     ap (λ s. s.period) is.1.stream ∙ ap (λ q. gap_of g q out) same
 
 -- the task of a port
-port_task : (g : GraphTree) (port : ℕ) (q : PortTree) → numbered g.ports port ≡ Some q
+pub port_task : (g : GraphTree) (port : ℕ) (q : PortTree) → numbered g.ports port ≡ Some q
     → (1 ≤ port) × (port ≤ length (tasks_of g)) × (numbers.task_of (tasks_of g) port ≡ task_of g q)
 port_task g zero q there = absurd (none-some q there)
 port_task g (suc k) q there =
@@ -107,13 +107,13 @@ module _ (g : GraphTree) (well : IsWellFormed g) (rates : All (IsWithinRates g) 
   abbrev new_at : Feed → List PortMessage
   new_at f = brought job.task (passed g q job.number m.time h.sends) f
 
-  items_after : items_of s' ≡ items_of s ++ item ∷ []
+  pub items_after : items_of s' ≡ items_of s ++ item ∷ []
   items_after = map_push (λ (h : Handled). h.item) s.handled (record { item = item; writes = h.writes })
 
-  handled_same : handled_of s' job.task ≡ suc (handled_of s job.task)
+  pub handled_same : handled_of s' job.task ≡ suc (handled_of s job.task)
   handled_same = ap (jobs_of job.task) items_after ∙ jobs_push_same job.task (items_of s) item refl
 
-  handled_grows : (port : ℕ) → handled_of s port ≤ handled_of s' port
+  pub handled_grows : (port : ℕ) → handled_of s port ≤ handled_of s' port
   handled_grows port =
       let e = ap (jobs_of port) items_after in
       ⊎_elim
@@ -121,20 +121,20 @@ module _ (g : GraphTree) (well : IsWellFormed g) (rates : All (IsWithinRates g) 
       (λ (other : job.task ≡ port → ⊥). let a = jobs_push_other port (items_of s) item other in omega arith)
       (cases_eq job.task port)
 
-  messages_after : (port : ℕ) (p : PortTree) → numbered g.ports port ≡ Some p → messages_at s' port ≡ messages_at s port ++ new_at p.feed
+  pub messages_after : (port : ℕ) (p : PortTree) → numbered g.ports port ≡ Some p → messages_at s' port ≡ messages_at s port ++ new_at p.feed
   messages_after zero p there = absurd (none-some p there)
   messages_after (suc k) p there = placed_at new_at g.ports s.messages k p holds.long there
 
-  message_stays : (port n : ℕ) (x : PortMessage) → numbered (messages_at s port) n ≡ Some x → numbered (messages_at s' port) n ≡ Some x
+  pub message_stays : (port n : ℕ) (x : PortMessage) → numbered (messages_at s port) n ≡ Some x → numbered (messages_at s' port) n ≡ Some x
   message_stays port n x here =
       let p = port_there g.ports s.messages port n x holds.long here in
       subst (λ (ms : List PortMessage). numbered ms n ≡ Some x) (sym (messages_after port p.0 p.1)) (numbered_left (messages_at s port) (new_at p.0.feed) n x here)
 
   -- the gaps of all sends of a job fit into the periods until the next job that passes
-  gaps_fit : (out : ℕ) → greatest_sends q out * gap_of g q out ≤ every_of q out * period_of g q
+  pub gaps_fit : (out : ℕ) → greatest_sends q out * gap_of g q out ≤ every_of q out * period_of g q
   gaps_fit out = let e = mod-add-div (every_of q out * period_of g q) (greatest_sends q out) in omega arith
 
-  new_within : (out i : ℕ) (x : PortMessage) → slice_get (spaced out (m.time + period_of g q) (gap_of g q out) h.sends) i ≡ Some x
+  pub new_within : (out i : ℕ) (x : PortMessage) → slice_get (spaced out (m.time + period_of g q) (gap_of g q out) h.sends) i ≡ Some x
       → (m.time + period_of g q ≤ x.time) × (x.time + gap_of g q out ≤ m.time + period_of g q + every_of q out * period_of g q)
   new_within out i x there =
       let c = spaced_within out (m.time + period_of g q) (gap_of g q out) h.sends i x there in
@@ -146,7 +146,7 @@ module _ (g : GraphTree) (well : IsWellFormed g) (rates : All (IsWithinRates g) 
       (a, omega arith)
 
   -- what an earlier job passed on ends before this job's first message comes
-  old_ends : (out : ℕ) (x : PortMessage) → job.number % every_of q out ≡ 0 → ComesOf g s q job.task out x → x.time + gap_of g q out ≤ m.time + period_of g q
+  pub old_ends : (out : ℕ) (x : PortMessage) → job.number % every_of q out ≡ 0 → ComesOf g s q job.task out x → x.time + gap_of g q out ≤ m.time + period_of g q
   old_ends out x multiple of =
       let le = of.handled in
       let apart = next_multiple (every_of q out) of.number job.number of.multiple multiple (omega arith) in

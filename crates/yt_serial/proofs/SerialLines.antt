@@ -28,7 +28,7 @@ use Rattle.yt_serial.specs.PortMessages.{PortMessage, numbered, spaced, passed}
 use Rattle.yt_serial.specs.SerialHandling.{Handled, Serial, messages_at, items_of, handled_of, start, brought, shown, all_shown, no_port, port_of, serial_step, serial_run}
 use Rattle.yt_serial.specs.Traces.{KeepsPeriods}
 use Rattle.yt_serial.proofs.Sends.{spaced_within, next_multiple}
-use Rattle.yt_serial.proofs.SerialInvariant.{ComesOf, Holds, after}
+use Rattle.yt_serial.proofs.SerialInvariant.{ComesOf, Holds, after, handled_grows, handled_same, message_stays, new_within, old_ends}
 use Rattle.yt_serial.proofs.SerialStates.{placed_at, port_there, BringsOf, brings, message_there}
 use Rattle.yt_serial.proofs.Spread.{numbered_left, numbered_far}
 use Rattle.yt_serial.proofs.SerialRuns.{stepped, holds_stepped, serial_holds}
@@ -171,7 +171,7 @@ pub record LinesHold (g : GraphTree) (s : Serial) : Type 0 where
   pub rise : (n : ℕ) → TimesRise (lines_of n s.lines)
   pub comes : (k : ℕ) (o : Output) (q : PortTree) → slice_get g.outputs k ≡ Some o → numbered g.ports o.port ≡ Some q → (l : OutLine) → Has (lines_of (suc k) s.lines) l → ComesOf g s q o.port o.out (message_in l)
 
-module _ (g : GraphTree) (s : Serial) (holds : Holds g s) (lines : LinesHold g s)
+module _ (g : GraphTree) (well : IsWellFormed g) (rates : All (IsWithinRates g) g.ports) (s : Serial) (holds : Holds g s) (lines : LinesHold g s)
     (job : Job) (q : PortTree) (is_port : numbered g.ports job.task ≡ Some q)
     (m : PortMessage) (next : job.number ≡ suc (handled_of s job.task)) (at : numbered (messages_at s job.task) job.number ≡ Some m) where
   abbrev h : Handling
@@ -183,63 +183,15 @@ module _ (g : GraphTree) (s : Serial) (holds : Holds g s) (lines : LinesHold g s
   abbrev passes : ℕ → List PortMessage
   passes = passed g q job.number m.time h.sends
 
-  items_after : items_of s' ≡ items_of s ++ (record { job = job; arrival = m.time; cost = h.ticks }) ∷ []
-  items_after = map_push (λ (h : Handled). h.item) s.handled (record { item = record { job = job; arrival = m.time; cost = h.ticks }; writes = h.writes })
-
-  handled_same : handled_of s' job.task ≡ suc (handled_of s job.task)
-  handled_same = ap (jobs_of job.task) items_after ∙ jobs_push_same job.task (items_of s) (record { job = job; arrival = m.time; cost = h.ticks }) refl
-
-  handled_grows : (port : ℕ) → handled_of s port ≤ handled_of s' port
-  handled_grows port =
-      let e = ap (jobs_of port) items_after in
-      let new : PlanItem = record { job = job; arrival = m.time; cost = h.ticks } in
-      ⊎_elim
-      (λ (same : job.task ≡ port). let a = jobs_push_same port (items_of s) new same in omega arith)
-      (λ (other : job.task ≡ port → ⊥). let a = jobs_push_other port (items_of s) new other in omega arith)
-      (cases_eq job.task port)
-
-  messages_after : (port : ℕ) (p : PortTree) → numbered g.ports port ≡ Some p → messages_at s' port ≡ messages_at s port ++ brought job.task passes p.feed
-  messages_after zero p there = absurd (none-some p there)
-  messages_after (suc k) p there = placed_at (brought job.task passes) g.ports s.messages k p holds.long there
-
-  message_stays : (port n : ℕ) (x : PortMessage) → numbered (messages_at s port) n ≡ Some x → numbered (messages_at s' port) n ≡ Some x
-  message_stays port n x here =
-      let p = port_there g.ports s.messages port n x holds.long here in
-      subst (λ (ms : List PortMessage). numbered ms n ≡ Some x) (sym (messages_after port p.0 p.1)) (numbered_left (messages_at s port) (brought job.task passes p.0.feed) n x here)
-
   comes_stays : (r : PortTree) (source out : ℕ) (x : PortMessage) → ComesOf g s r source out x → ComesOf g s' r source out x
   comes_stays r source out x of = record {
     number = of.number;
     message = of.message;
-    handled = let a = of.handled in let b = handled_grows source in omega arith;
-    there = message_stays source of.number of.message of.there;
+    handled = let a = of.handled in let b = handled_grows g well rates s holds job q is_port m next at source in omega arith;
+    there = message_stays g well rates s holds job q is_port m next at source of.number of.message of.there;
     multiple = of.multiple;
     ends = of.ends;
   }
-
-  gaps_fit : (out : ℕ) → greatest_sends q out * gap_of g q out ≤ every_of q out * period_of g q
-  gaps_fit out = let e = mod-add-div (every_of q out * period_of g q) (greatest_sends q out) in omega arith
-
-  new_within : (out i : ℕ) (x : PortMessage) → slice_get (spaced out (m.time + period_of g q) (gap_of g q out) h.sends) i ≡ Some x
-      → (m.time + period_of g q ≤ x.time) × (x.time + gap_of g q out ≤ m.time + period_of g q + every_of q out * period_of g q)
-  new_within out i x there =
-      let c = spaced_within out (m.time + period_of g q) (gap_of g q out) h.sends i x there in
-      let a = c.starts in
-      let b = c.ends in
-      let most : sent_on out h.sends * gap_of g q out ≤ greatest_sends q out * gap_of g q out =
-      mul-le (sent_on out h.sends) (gap_of g q out) (greatest_sends q out) (gap_of g q out) (sends_within q out m.values s.vars) (omega arith) in
-      let fit = gaps_fit out in
-      (a, omega arith)
-
-  old_ends : (out : ℕ) (x : PortMessage) → job.number % every_of q out ≡ 0 → ComesOf g s q job.task out x → x.time + gap_of g q out ≤ m.time + period_of g q
-  old_ends out x multiple of =
-      let le = of.handled in
-      let apart = next_multiple (every_of q out) of.number job.number of.multiple multiple (omega arith) in
-      let behind = numbered_far (period_of g q) (messages_at s job.task) (holds.spread job.task q is_port) of.number job.number of.message m of.there at (omega arith) in
-      let periods : every_of q out * period_of g q ≤ (job.number - of.number) * period_of g q =
-      mul-le (every_of q out) (period_of g q) (job.number - of.number) (period_of g q) (omega arith) (omega arith) in
-      let ends = of.ends in
-      omega arith
 
   -- what is new at an output
   record IsNew (k : ℕ) (o : Output) (l : OutLine) : Type 0 where
@@ -254,16 +206,16 @@ module _ (g : GraphTree) (s : Serial) (holds : Holds g s) (lines : LinesHold g s
       let port : o.port ≡ job.task = cc in
       let out : b.out ≡ o.out = cc in
       let r = has_shown (suc k) (brought job.task passes (Out o.port o.out)) l has in
-      let w = new_within b.out r.0 r.1 (ap (λ (ms : List PortMessage). slice_get ms r.0) (sym b.spaced) ∙ r.2) in
+      let w = new_within g well rates s holds job q is_port m next at b.out r.0 r.1 (ap (λ (ms : List PortMessage). slice_get ms r.0) (sym b.spaced) ∙ r.2) in
       let time : l.time ≡ r.1.time = r.3 in
       let starts = w.0 in
       let ends = w.1 in
-      let le = handled_same in
+      let le = handled_same g well rates s holds job q is_port m next at in
       let here : ComesOf g s' q job.task b.out (message_in l) = record {
         number = job.number;
         message = m;
         handled = omega arith;
-        there = message_stays job.task job.number m at;
+        there = message_stays g well rates s holds job q is_port m next at job.task job.number m at;
         multiple = b.multiple;
         ends = omega arith;
       } in
@@ -290,7 +242,7 @@ module _ (g : GraphTree) (s : Serial) (holds : Holds g s) (lines : LinesHold g s
       let port : numbered g.ports o.port ≡ Some q = ap (numbered g.ports) n.from ∙ is_port in
       let of : ComesOf g s q o.port o.out (message_in x) = lines.comes k o q there port x has_x in
       let of2 : ComesOf g s q job.task b.out (message_in x) = subst (λ (i : ℕ). ComesOf g s q i b.out (message_in x)) n.from (subst (λ (i : ℕ). ComesOf g s q o.port i (message_in x)) (sym out) of) in
-      let ends = old_ends b.out (message_in x) b.multiple of2 in
+      let ends = old_ends g well rates s holds job q is_port m next at b.out (message_in x) b.multiple of2 in
       let late = n.late in
       omega arith)
 
@@ -354,7 +306,7 @@ module _ (g : GraphTree) (well : IsWellFormed g) (rates : All (IsWithinRates g) 
       let q = port_there g.ports s.messages job.task job.number m holds.long there.1 in
       let port : port_of g job ≡ q.0 = ap (λ (o : Option PortTree). unwrap_or o no_port) q.1 in
       let same : after g q.0 job m s ≡ t = ap (λ (p : PortTree). after g p job m s) (sym port) ∙ k.2 in
-      subst (LinesHold g) same (lines_hold_after g s holds lines job q.0 q.1 m there.0 there.1)
+      subst (LinesHold g) same (lines_hold_after g well rates s holds lines job q.0 q.1 m there.0 there.1)
 
   lines_along : (order : List Job) (s t : Serial) → Holds g s → LinesHold g s → serial_run g order s ≡ Some t → LinesHold g t
   lines_along [] s t holds lines along = subst (LinesHold g) (same_Some s t along) lines

@@ -28,7 +28,7 @@ use Rattle.yt_serial.specs.PortMessages.{PortMessage, numbered, passed}
 use Rattle.yt_serial.specs.SerialHandling.{Handled, Serial, messages_at, items_of, handled_of, brought, start, no_port, port_of, handle_message, message_of, serial_step, serial_run, plan_of, plan_of_log}
 use Rattle.yt_serial.proofs.Orders.{goes_on}
 use Rattle.yt_serial.proofs.Sends.{spaced_within}
-use Rattle.yt_serial.proofs.SerialInvariant.{Holds}
+use Rattle.yt_serial.proofs.SerialInvariant.{Holds, port_task}
 use Rattle.yt_serial.proofs.SerialRuns.{holds_stepped, serial_holds, stepped}
 use Rattle.yt_serial.proofs.SerialStates.{BringsOf, brings, message_there, placed_at, port_there}
 use Rattle.yt_serial.proofs.Spread.{get_cases, numbered_left}
@@ -39,16 +39,6 @@ step_item g job m s = record { job = job; arrival = m.time; cost = (handling (po
 
 abbrev pub step_passes : GraphTree → Job → PortMessage → Serial → ℕ → List PortMessage
 step_passes g job m s = passed g (port_of g job) job.number m.time (handling (port_of g job) m.values s.vars).sends
-
--- a port's task in the graph's set
-pub port_task : (g : GraphTree) (port : ℕ) (q : PortTree) → numbered g.ports port ≡ Some q
-    → (1 ≤ port) × (port ≤ length (tasks_of g)) × (numbers.task_of (tasks_of g) port ≡ task_of g q)
-port_task g zero q there = absurd (none-some q there)
-port_task g (suc k) q there =
-    let within = slice_get_within g.ports k q there in
-    let long = length-map g.ports (task_of g) in
-    let at : slice_get (tasks_of g) k ≡ Some (task_of g q) = slice_get-map (task_of g) g.ports k ∙ ap (λ o. option_map (task_of g) o) there in
-    (omega arith, omega arith, task_of-suc (tasks_of g) k ∙ get_or_from_slice_get (tasks_of g) k (task_of g q) no_task at)
 
 -- what a job passes on comes no earlier than its deadline
 pub sent_late : (g : GraphTree) (q : PortTree) (job : Job) (arrival : ℕ) (sends : List SendItem) (f : Feed) (k : ℕ) (x : PortMessage)

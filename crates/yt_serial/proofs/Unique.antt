@@ -16,7 +16,7 @@ use Rattle.yt_log.proofs.Appends.{jobs_none}
 use Rattle.yt_log.proofs.Choices.{IsLeast, least_is, waits_true, waits_from}
 use Rattle.yt_log.proofs.Demands.{deadline_is}
 use Rattle.yt_log.proofs.Leasts.{rule_is_least}
-use Rattle.yt_log.proofs.Made.{choice_same}
+use Rattle.yt_log.proofs.Made.{choice_same, Agree, done_same}
 use Rattle.yt_log.proofs.Plans.{one_item, good_item}
 use Rattle.yt_log.proofs.Ticks.{done_grows}
 use Rattle.yt_rates.specs.Rates.{period_of}
@@ -31,11 +31,11 @@ use Rattle.yt_serial.specs.SerialHandling.{Serial, messages_at, items_of, handle
 use Rattle.yt_serial.specs.Told.{line_before, latest, AllHandled, IsPromisedRun}
 use Rattle.yt_serial.proofs.Done.{busy_until_le}
 use Rattle.yt_serial.proofs.Orders.{done_begun}
-use Rattle.yt_serial.proofs.Prefix.{Agree, done_same, begun_same}
-use Rattle.yt_serial.proofs.SerialInvariant.{Holds}
+use Rattle.yt_serial.proofs.Prefix.{begun_same}
+use Rattle.yt_serial.proofs.SerialInvariant.{Holds, port_task}
 use Rattle.yt_serial.proofs.SerialRuns.{serial_holds, stepped}
 use Rattle.yt_serial.proofs.SerialStates.{message_there, port_there}
-use Rattle.yt_serial.proofs.SerialSteps.{AtTick, IsBrought, at_tick, from_start, in_items, in_plan, port_task}
+use Rattle.yt_serial.proofs.SerialSteps.{AtTick, IsBrought, at_tick, from_start, in_items, in_plan}
 
 module _ (g : GraphTree) (trace : List Message) (can : CanRun g trace) where
   -- an item of the same job and arrival that waits
