@@ -22,12 +22,12 @@ use Rattle.yt_serial.specs.PortMessages.{PortMessage, numbered}
 use Rattle.yt_serial.specs.SerialHandling.{Handled, Serial, messages_at, items_of, handled_of, brought, placed, start, handle_message, serial_step}
 use Rattle.yt_serial.specs.Traces.{KeepsPeriods}
 use Rattle.yt_serial.proofs.Lemmas.{Holds, placed_at, port_there, numbered_left, serial_holds, run_push, step_of, writes_of_push_other, writes_of_push_same, writes_below_more}
-use Rattle.yt_interleave.specs.Interleaved.{Begun, Moment, port_at, group_at, Uses, value_at, item_of, passes_of, known_at, put, on_way, with_begun, IsUnderWay, IsInUse, IsEndedOrActive, StandsFor}
+use Rattle.yt_interleave.specs.Interleaved.{ActiveJob, RunState, port_at, group_at, Uses, value_at, item_of, passes_of, known_at, put, to_come, with_begun, IsActiveJob, IsInUse, IsEndedOrActive, MatchesSerial}
 use Rattle.yt_serial.specs.Beginnings.{nth_job}
 use Rattle.yt_serial.specs.Variables.{after_writes}
 use Rattle.yt_interleave.specs.Moves.{MayBegin}
 use Rattle.yt_interleave.proofs.HandlerWrites.{IsWritten, handling_written, written_none, after_writes-length, kept_after, kept_or_written}
-use Rattle.yt_interleave.proofs.Pieces.{put_same, put_other, put_cases, placed_twice, on_way_begun}
+use Rattle.yt_interleave.proofs.Pieces.{put_same, put_other, put_cases, placed_twice, to_come_begun}
 use Rattle.yt_log.proofs.Members.{has_left, has_last}
 use Rattle.yt_interleave.proofs.Sharing.{shared}
 
@@ -40,7 +40,7 @@ same_job_parts : (j : Job) (port k : ℕ) → j.task ≡ port → j.number ≡ k
 same_job_parts j port k e f = ap (λ (n : ℕ). nth_job n j.number) e ∙ ap (nth_job port) f
 
 module _ (g : GraphTree) (well : IsWellFormed g) (rates : All (IsWithinRates g) g.ports) (trace : List Message) (keeps : KeepsPeriods g trace)
-    (order : List Job) (s : Serial) (r : Moment) (stands : StandsFor g trace order s r) where
+    (order : List Job) (s : Serial) (r : RunState) (stands : MatchesSerial g trace order s r) where
   pub serial : Holds g s
   serial = serial_holds g well rates trace keeps order s stands.along
 
@@ -51,19 +51,19 @@ module _ (g : GraphTree) (well : IsWellFormed g) (rates : All (IsWithinRates g) 
       at_port : (port : ℕ) (p : PortTree) → numbered g.ports port ≡ Some p → numbered (known_at r port) n ≡ Some m → numbered (messages_at s port) n ≡ Some m
       at_port zero p is there = absurd (none-some p is)
       at_port (suc k) p is there =
-          let here : messages_at s (suc k) ≡ known_at r (suc k) ++ on_way g r.active p.feed =
-          ap (λ (ms : List (List PortMessage)). unwrap_or (numbered ms (suc k)) []) stands.messages ∙ placed_at (on_way g r.active) g.ports r.messages k p stands.long is in
-          subst (λ (ms : List PortMessage). numbered ms n ≡ Some m) (sym here) (numbered_left (known_at r (suc k)) (on_way g r.active p.feed) n m there)
+          let here : messages_at s (suc k) ≡ known_at r (suc k) ++ to_come g r.active p.feed =
+          ap (λ (ms : List (List PortMessage)). unwrap_or (numbered ms (suc k)) []) stands.messages ∙ placed_at (to_come g r.active) g.ports r.messages k p stands.long is in
+          subst (λ (ms : List PortMessage). numbered ms n ≡ Some m) (sym here) (numbered_left (known_at r (suc k)) (to_come g r.active p.feed) n m there)
 
   -- no two jobs that are under way use one variable
-  pub not_both : (p q : ℕ) (b c : Begun) → r.active p ≡ Some b → r.active q ≡ Some c → (p ≡ q → ⊥) → (v : ℕ) → Uses g p v → Uses g q v → ⊥
+  pub not_both : (p q : ℕ) (b c : ActiveJob) → r.active p ≡ Some b → r.active q ≡ Some c → (p ≡ q → ⊥) → (v : ℕ) → Uses g p v → Uses g q v → ⊥
   not_both p q b c at_p at_q ne v h k = let both = shared g well p q v h k in stands.exclusive p q b c at_p at_q ne both.0 both.1
 
   module _ (job : Job) (m : PortMessage) (may : MayBegin g s r job m) where
     abbrev h : Handling
     h = handling (port_at g job.task) m.values s.vars
 
-    abbrev b : Begun
+    abbrev b : ActiveJob
     b = record { job = job; message = m; vars = s.vars }
 
     abbrev item : PlanItem
@@ -72,7 +72,7 @@ module _ (g : GraphTree) (well : IsWellFormed g) (rates : All (IsWithinRates g) 
     abbrev s' : Serial
     s' = handle_message g job m s
 
-    abbrev r' : Moment
+    abbrev r' : RunState
     r' = with_begun job m s.vars r
 
     abbrev new : Handled
@@ -146,7 +146,7 @@ module _ (g : GraphTree) (well : IsWellFormed g) (rates : All (IsWithinRates g) 
     fresh_handled : (z : Handled) → Has s.handled z → z.item.job ≡ job → ⊥
     fresh_handled z has e = fresh z.item (has_item s.handled z has) e
 
-    under_way_new : IsUnderWay g s' r.log r.vars job.task b
+    under_way_new : IsActiveJob g s' r.log r.vars job.task b
     under_way_new = record {
       task = refl;
       number = may.number ∙ sym handled_same;
@@ -163,13 +163,13 @@ module _ (g : GraphTree) (well : IsWellFormed g) (rates : All (IsWithinRates g) 
     }
 
     -- the variables of another job under way stay in serial handling too
-    kept_other : (port : ℕ) (c : Begun) → r.active port ≡ Some c → (v : ℕ) → Uses g port v → value_at s'.vars v ≡ value_at s.vars v
+    kept_other : (port : ℕ) (c : ActiveJob) → r.active port ≡ Some c → (v : ℕ) → Uses g port v → value_at s'.vars v ≡ value_at s.vars v
     kept_other port c at_port v uses =
         ap (λ (xs : List ℤ). value_at xs v) written.vars_after
         ∙ kept_after h.writes s.vars v
         (λ w has e. none_uses v (subst (Uses g job.task) e (written.own w has)) (port, c, at_port, uses))
 
-    under_way_other : (port : ℕ) (c : Begun) → (port ≡ job.task → ⊥) → r.active port ≡ Some c → IsUnderWay g s' r.log r.vars port c
+    under_way_other : (port : ℕ) (c : ActiveJob) → (port ≡ job.task → ⊥) → r.active port ≡ Some c → IsActiveJob g s' r.log r.vars port c
     under_way_other port c ne at_port =
         let u = stands.under_way port c at_port in
         record {
@@ -185,25 +185,25 @@ module _ (g : GraphTree) (well : IsWellFormed g) (rates : All (IsWithinRates g) 
           later = λ v k. kept_other port c at_port v k ∙ u.later v k;
         }
 
-    abbrev active' : ℕ → Option Begun
+    abbrev active' : ℕ → Option ActiveJob
     active' = put job.task (Some b) r.active
 
-    at_cases : (port : ℕ) (c : Begun) → active' port ≡ Some c → ((port ≡ job.task) × (b ≡ c)) ⊎ ((port ≡ job.task → ⊥) × (r.active port ≡ Some c))
+    at_cases : (port : ℕ) (c : ActiveJob) → active' port ≡ Some c → ((port ≡ job.task) × (b ≡ c)) ⊎ ((port ≡ job.task → ⊥) × (r.active port ≡ Some c))
     at_cases port c h =
         ⊎_elim
         (λ (e : (port ≡ job.task) × (Some b ≡ Some c)). inl (e.0, same_Some b c e.1))
         (λ (e : (port ≡ job.task → ⊥) × (r.active port ≡ Some c)). inr e)
         (put_cases job.task (Some b) (Some c) r.active port h)
 
-    under_way_after : (port : ℕ) (c : Begun) → active' port ≡ Some c → IsUnderWay g s' r.log r.vars port c
+    under_way_after : (port : ℕ) (c : ActiveJob) → active' port ≡ Some c → IsActiveJob g s' r.log r.vars port c
     under_way_after port c h =
         ⊎_elim
         (λ (e : (port ≡ job.task) × (b ≡ c)).
-        subst (λ (n : ℕ). IsUnderWay g s' r.log r.vars n c) (sym e.0) (subst (IsUnderWay g s' r.log r.vars job.task) e.1 under_way_new))
+        subst (λ (n : ℕ). IsActiveJob g s' r.log r.vars n c) (sym e.0) (subst (IsActiveJob g s' r.log r.vars job.task) e.1 under_way_new))
         (λ (e : (port ≡ job.task → ⊥) × (r.active port ≡ Some c)). under_way_other port c e.0 e.1)
         (at_cases port c h)
 
-    exclusive_after : (p q : ℕ) (c d : Begun) → active' p ≡ Some c → active' q ≡ Some d → (p ≡ q → ⊥) → 0 < group_at g p → group_at g p ≡ group_at g q → ⊥
+    exclusive_after : (p q : ℕ) (c d : ActiveJob) → active' p ≡ Some c → active' q ≡ Some d → (p ≡ q → ⊥) → 0 < group_at g p → group_at g p ≡ group_at g q → ⊥
     exclusive_after p q c d at_p at_q ne some same =
         ⊎_elim
         (λ (e : (p ≡ job.task) × (b ≡ c)).
@@ -222,17 +222,17 @@ module _ (g : GraphTree) (well : IsWellFormed g) (rates : All (IsWithinRates g) 
         (at_cases q d at_q))
         (at_cases p c at_p)
 
-    known_after : (port : ℕ) (c : Begun) → active' port ≡ Some c → numbered (known_at r port) c.job.number ≡ Some c.message
+    known_after : (port : ℕ) (c : ActiveJob) → active' port ≡ Some c → numbered (known_at r port) c.job.number ≡ Some c.message
     known_after port c h =
         ⊎_elim
         (λ (e : (port ≡ job.task) × (b ≡ c)).
         subst (λ (n : ℕ). numbered (known_at r n) c.job.number ≡ Some c.message) (sym e.0)
-        (subst (λ (x : Begun). numbered (known_at r job.task) x.job.number ≡ Some x.message) e.1 may.there))
+        (subst (λ (x : ActiveJob). numbered (known_at r job.task) x.job.number ≡ Some x.message) e.1 may.there))
         (λ (e : (port ≡ job.task → ⊥) × (r.active port ≡ Some c)). stands.known port c e.1)
         (at_cases port c h)
 
     -- a job under way stays
-    stays : (port : ℕ) (c : Begun) → r.active port ≡ Some c → active' port ≡ Some c
+    stays : (port : ℕ) (c : ActiveJob) → r.active port ≡ Some c → active' port ≡ Some c
     stays port c at_port =
         put_other job.task (Some b) r.active port (λ e. none-some c (sym may.idle ∙ ap r.active (sym e) ∙ at_port)) ∙ at_port
 
@@ -256,7 +256,7 @@ module _ (g : GraphTree) (well : IsWellFormed g) (rates : All (IsWithinRates g) 
         ⊎_elim
         (λ (old : Has (items_of s) z).
         ⊎_elim
-        (λ (a : (c : Begun) × (r.active z.job.task ≡ Some c) × (z ≡ item_of g c)). inl (a.0, stays z.job.task a.0 a.1, a.2))
+        (λ (a : (c : ActiveJob) × (r.active z.job.task ≡ Some c) × (z ≡ item_of g c)). inl (a.0, stays z.job.task a.0 a.1, a.2))
         (λ (e : done r.log z.job (length r.log) ≡ z.cost). inr e)
         (stands.ended z old))
         (λ (e : z ≡ item). inl (b, put_same job.task (Some b) r.active z.job.task (ap (λ (x : PlanItem). x.job.task) e), e))
@@ -294,7 +294,7 @@ module _ (g : GraphTree) (well : IsWellFormed g) (rates : All (IsWithinRates g) 
         old : (z : PlanItem) × (Has (items_of s) z) × (z.job ≡ nth_job port k) × (1 ≤ z.cost) → (z : PlanItem) × (Has (items_of s') z) × (z.job ≡ nth_job port k) × (1 ≤ z.cost)
         old (z, has, is, cost) = (z, has_before z has, is, cost)
 
-    pub begun : StandsFor g trace (order ++ job ∷ []) s' r'
+    pub begun : MatchesSerial g trace (order ++ job ∷ []) s' r'
     begun = record {
       along = run_push g order job (start g trace) s s' stands.along step;
       under_way = under_way_after;
@@ -303,7 +303,7 @@ module _ (g : GraphTree) (well : IsWellFormed g) (rates : All (IsWithinRates g) 
       long = stands.long;
       messages =
           ap (placed (brought job.task (passes_of g b)) g.ports) stands.messages
-          ∙ placed_twice (on_way g r.active) (brought job.task (passes_of g b)) (on_way g active') (on_way_begun g r.active job.task b may.idle) g.ports r.messages;
+          ∙ placed_twice (to_come g r.active) (brought job.task (passes_of g b)) (to_come g active') (to_come_begun g r.active job.task b may.idle) g.ports r.messages;
       count = stands.count ∙ sym (ap length written.vars_after ∙ after_writes-length h.writes s.vars);
       others = others_after;
       written = stands.written ∙ ap (λ (ws : List Write). after_writes ws (start g trace).vars) (sym (writes_below_more s.handled new r.log (length r.log) not_done));

@@ -11,7 +11,7 @@ use Rattle.yt_log.specs.declared.plan.PlanItem.{PlanItem}
 use Rattle.yt_log.specs.Ticks.{Ticks, tick}
 use Rattle.yt_serial.specs.declared.shown.OutLine.{OutLine}
 use Rattle.yt_serial.specs.declared.trace.Message.{Message}
-use Rattle.yt_serial.specs.Judged.{IsRunnable}
+use Rattle.yt_serial.specs.Judged.{IsSchedulable}
 use Rattle.yt_serial.specs.PortMessages.{PortMessage, numbered}
 use Rattle.yt_serial.specs.SerialHandling.{Serial, messages_at, brought, start, plan_of_log, handled_along}
 use Rattle.yt_serial.specs.Told.{IsPromisedRun}
@@ -19,7 +19,7 @@ use Rattle.yt_serial.specs.Variables.{variables_at}
 use Rattle.yt_log.proofs.Made.{Agree}
 use Rattle.yt_serial.proofs.Lemmas.{IsRuleRun, agree_to, feed_cases, get_cases, placed_at, port_there, promised_is}
 use Rattle.yt_interleave.specs.Interleaved as own
-use Rattle.yt_interleave.specs.Interleaved.{Begun, passes_of}
+use Rattle.yt_interleave.specs.Interleaved.{ActiveJob, passes_of}
 use Rattle.yt_interleave.specs.Runs.{IsRunning, StartsWith, RunsAgree}
 use Rattle.yt_interleave.proofs.Over.{variables_are_written}
 use Rattle.yt_interleave.proofs.Whole as whole
@@ -35,7 +35,7 @@ prefix_is (x ∷ xs) (y ∷ ys) le agree =
     ap (λ (o : Option Job). o ∷ ys) (sym (agree 0 (omega arith)))
     ∙ ap (λ (os : Ticks). x ∷ os) (prefix_is xs ys (omega arith) (λ u lt. agree (suc u) (omega arith)))
 
-module _ (g : GraphTree) (trace : List Message) (able : IsRunnable g trace) (s : Serial) (r : own.Moment) (due : ℕ) (plan : List PlanItem) (shown : List OutLine)
+module _ (g : GraphTree) (trace : List Message) (able : IsSchedulable g trace) (s : Serial) (r : own.RunState) (due : ℕ) (plan : List PlanItem) (shown : List OutLine)
     (is : IsRunning g trace s r due plan shown) (low : length r.log ≤ due) where
   -- a message that comes before now is a known one
   known_now : (port n : ℕ) (m : PortMessage) → numbered (messages_at s port) n ≡ Some m → m.time < length r.log → numbered (own.known_at r port) n ≡ Some m
@@ -49,15 +49,15 @@ module _ (g : GraphTree) (trace : List Message) (able : IsRunnable g trace) (s :
       at zero p is_port there = absurd (none-some p is_port)
       at (suc k) p is_port there =
           let st = is.interleaves.stands in
-          let here : messages_at s (suc k) ≡ own.known_at r (suc k) ++ own.on_way g r.active p.feed =
-          ap (λ (ms : List (List PortMessage)). unwrap_or (numbered ms (suc k)) []) st.messages ∙ placed_at (own.on_way g r.active) g.ports r.messages k p st.long is_port in
+          let here : messages_at s (suc k) ≡ own.known_at r (suc k) ++ own.to_come g r.active p.feed =
+          ap (λ (ms : List (List PortMessage)). unwrap_or (numbered ms (suc k)) []) st.messages ∙ placed_at (own.to_come g r.active) g.ports r.messages k p st.long is_port in
           ⊎_elim
           (λ (old : slice_get (own.known_at r (suc k)) i ≡ Some m). old)
-          (λ (new : (j : ℕ) × (i ≡ length (own.known_at r (suc k)) + j) × (slice_get (own.on_way g r.active p.feed) j ≡ Some m)).
+          (λ (new : (j : ℕ) × (i ≡ length (own.known_at r (suc k)) + j) × (slice_get (own.to_come g r.active p.feed) j ≡ Some m)).
           absurd (not_on_way p.feed new.0 new.2))
-          (get_cases (own.known_at r (suc k)) (own.on_way g r.active p.feed) i m (ap (λ (ms : List PortMessage). slice_get ms i) (sym here) ∙ there))
+          (get_cases (own.known_at r (suc k)) (own.to_come g r.active p.feed) i m (ap (λ (ms : List PortMessage). slice_get ms i) (sym here) ∙ there))
         where
-          by_port : (source out : ℕ) (o : Option Begun) → r.active source ≡ o → (j : ℕ) → slice_get (own.passed_by g o out) j ≡ Some m → ⊥
+          by_port : (source out : ℕ) (o : Option ActiveJob) → r.active source ≡ o → (j : ℕ) → slice_get (own.passed_by g o out) j ≡ Some m → ⊥
           by_port source out None at_source j got = none-some m got
           by_port source out (Some b) at_source j got =
               let timely = whole.on_time g trace able s r due plan shown is low in
@@ -67,11 +67,11 @@ module _ (g : GraphTree) (trace : List Message) (able : IsRunnable g trace) (s :
               let late = passes_late g b (Out b.job.task out) j m (ap (λ (ms : List PortMessage). slice_get ms j) same ∙ got) in
               absurd (omega arith)
 
-          not_on_way : (f : Feed) (j : ℕ) → slice_get (own.on_way g r.active f) j ≡ Some m → ⊥
+          not_on_way : (f : Feed) (j : ℕ) → slice_get (own.to_come g r.active f) j ≡ Some m → ⊥
           not_on_way f j got =
               ⊎_elim
-              (λ (i : (input : ℕ) × (f ≡ Input input)). none-some m (ap (λ (x : Feed). slice_get (own.on_way g r.active x) j) (sym i.1) ∙ got))
-              (λ (o : (source out : ℕ) × (f ≡ Out source out)). by_port o.0 o.1 (r.active o.0) refl j (ap (λ (x : Feed). slice_get (own.on_way g r.active x) j) (sym o.2) ∙ got))
+              (λ (i : (input : ℕ) × (f ≡ Input input)). none-some m (ap (λ (x : Feed). slice_get (own.to_come g r.active x) j) (sym i.1) ∙ got))
+              (λ (o : (source out : ℕ) × (f ≡ Out source out)). by_port o.0 o.1 (r.active o.0) refl j (ap (λ (x : Feed). slice_get (own.to_come g r.active x) j) (sym o.2) ∙ got))
               (feed_cases f)
 
   running_is : IsRuleRun g trace able.can r.log s plan

@@ -14,22 +14,22 @@ use Rattle.yt_serial.specs.declared.trace.Message.{Message}
 use Rattle.yt_serial.specs.PortMessages.{PortMessage, numbered}
 use Rattle.yt_serial.specs.SerialHandling.{Serial, items_of, brought}
 use Rattle.yt_serial.proofs.Lemmas.{placed_at, placed-length, port_there, numbered_left}
-use Rattle.yt_interleave.specs.Interleaved.{Begun, Moment, port_at, Uses, value_at, whole_of, item_of, passes_of, known_at, put, on_way, with_end, IsUnderWay, IsInUse, IsEndedOrActive, StandsFor}
+use Rattle.yt_interleave.specs.Interleaved.{ActiveJob, RunState, port_at, Uses, value_at, whole_of, item_of, passes_of, known_at, put, to_come, with_end, IsActiveJob, IsInUse, IsEndedOrActive, MatchesSerial}
 use Rattle.yt_interleave.proofs.HandlerWrites.{IsWritten, handling_written, written_all}
-use Rattle.yt_interleave.proofs.Pieces.{put_other, put_cases, placed_twice, on_way_ended}
+use Rattle.yt_interleave.proofs.Pieces.{put_other, put_cases, placed_twice, to_come_ended}
 
-module _ (g : GraphTree) (trace : List Message) (order : List Job) (s : Serial) (r : Moment) (stands : StandsFor g trace order s r)
-    (port : ℕ) (b : Begun) (at_port : r.active port ≡ Some b) (ends : done r.log b.job (length r.log) ≡ (whole_of g b).ticks) where
+module _ (g : GraphTree) (trace : List Message) (order : List Job) (s : Serial) (r : RunState) (stands : MatchesSerial g trace order s r)
+    (port : ℕ) (b : ActiveJob) (at_port : r.active port ≡ Some b) (ends : done r.log b.job (length r.log) ≡ (whole_of g b).ticks) where
   abbrev h : Handling
   h = whole_of g b
 
-  abbrev r' : Moment
+  abbrev r' : RunState
   r' = with_end g b r
 
-  abbrev active' : ℕ → Option Begun
+  abbrev active' : ℕ → Option ActiveJob
   active' = put b.job.task None r.active
 
-  u : IsUnderWay g s r.log r.vars port b
+  u : IsActiveJob g s r.log r.vars port b
   u = stands.under_way port b at_port
 
   at_task : r.active b.job.task ≡ Some b
@@ -38,7 +38,7 @@ module _ (g : GraphTree) (trace : List Message) (order : List Job) (s : Serial) 
   written : IsWritten (port_at g b.job.task) b.vars h
   written = handling_written (port_at g b.job.task) b.message.values b.vars
 
-  at_cases : (p : ℕ) (c : Begun) → active' p ≡ Some c → (p ≡ b.job.task → ⊥) × (r.active p ≡ Some c)
+  at_cases : (p : ℕ) (c : ActiveJob) → active' p ≡ Some c → (p ≡ b.job.task → ⊥) × (r.active p ≡ Some c)
   at_cases p c here =
       ⊎_elim
       (λ (e : (p ≡ b.job.task) × (None ≡ Some c)). absurd (none-some c e.1))
@@ -70,7 +70,7 @@ module _ (g : GraphTree) (trace : List Message) (order : List Job) (s : Serial) 
   ended_after : (z : PlanItem) → Has (items_of s) z → IsEndedOrActive g r.log active' z
   ended_after z has =
       ⊎_elim
-      (λ (a : (c : Begun) × (r.active z.job.task ≡ Some c) × (z ≡ item_of g c)).
+      (λ (a : (c : ActiveJob) × (r.active z.job.task ≡ Some c) × (z ≡ item_of g c)).
       ⊎_elim
       (λ (e : z.job.task ≡ b.job.task).
       let c : b ≡ a.0 = same_Some b a.0 (sym at_task ∙ ap r.active (sym e) ∙ a.1) in
@@ -90,7 +90,7 @@ module _ (g : GraphTree) (trace : List Message) (order : List Job) (s : Serial) 
           subst (λ (ms : List PortMessage). numbered ms n ≡ Some m) (sym (placed_at (brought b.job.task (passes_of g b)) g.ports r.messages k q stands.long is))
           (numbered_left (known_at r (suc k)) (brought b.job.task (passes_of g b) q.feed) n m there)
 
-  pub ended : StandsFor g trace order s r'
+  pub ended : MatchesSerial g trace order s r'
   ended = record {
     along = stands.along;
     under_way = λ p c here. stands.under_way p c (at_cases p c here).1;
@@ -99,7 +99,7 @@ module _ (g : GraphTree) (trace : List Message) (order : List Job) (s : Serial) 
     long = placed-length (brought b.job.task (passes_of g b)) g.ports r.messages stands.long;
     messages =
         stands.messages
-        ∙ sym (placed_twice (brought b.job.task (passes_of g b)) (on_way g active') (on_way g r.active) (on_way_ended g r.active b.job.task b at_task) g.ports r.messages);
+        ∙ sym (placed_twice (brought b.job.task (passes_of g b)) (to_come g active') (to_come g r.active) (to_come_ended g r.active b.job.task b at_task) g.ports r.messages);
     count = stands.count;
     others = others_after;
     written = stands.written;

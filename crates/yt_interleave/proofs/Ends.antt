@@ -12,7 +12,7 @@ use Rattle.yt_serial.specs.Beginnings.{busy_until}
 use Rattle.yt_serial.specs.SerialHandling.{Serial}
 use Rattle.yt_serial.specs.Told.{latest}
 use Rattle.yt_serial.proofs.Lemmas.{busy_until_within, length_push, tick_last, lines_has}
-use Rattle.yt_interleave.specs.Interleaved.{Moment}
+use Rattle.yt_interleave.specs.Interleaved.{RunState}
 use Rattle.yt_interleave.specs.Lines.{messages_to}
 use Rattle.yt_interleave.specs.Runs.{IsRunning, RunsEnd}
 use Rattle.yt_interleave.proofs.Shown.{has_before}
@@ -33,7 +33,7 @@ busy_at : (log : Ticks) (t : ℕ) (job : Job) → tick log t ≡ Some job → bu
 unfolding busy_until
 busy_at log t job e = cond-true (is_some (tick log t)) (suc t) (busy_until log t) (ap is_some e)
 
-module _ (g : GraphTree) (trace : List Message) (s : Serial) (r : Moment) (due : ℕ) (plan : List PlanItem) (lines : List OutLine)
+module _ (g : GraphTree) (trace : List Message) (s : Serial) (r : RunState) (due : ℕ) (plan : List PlanItem) (lines : List OutLine)
     (is : IsRunning g trace s r due plan lines) (low : due ≤ suc (length r.log)) where
   early : (l : OutLine) → Has lines l → l.time ≤ length r.log
   early l h =

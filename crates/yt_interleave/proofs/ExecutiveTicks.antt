@@ -19,30 +19,30 @@ use Rattle.yt_serial.specs.declared.shown.OutLine.{OutLine}
 use Rattle.yt_serial.specs.declared.trace.Message.{Message}
 use Rattle.yt_serial.specs.PortMessages.{PortMessage}
 use Rattle.yt_serial.specs.SerialHandling.{Serial, handle_message}
-use Rattle.yt_interleave.specs.Executives.{HasLeft, GoesOnAs, ExecutivesTick}
+use Rattle.yt_interleave.specs.Executives.{HasLeft, StillStandsFor, ExecutivesTick}
 use Rattle.yt_interleave.specs.Interleaved as own
-use Rattle.yt_interleave.specs.Interleaved.{Begun, whole_of, with_begun, with_idle}
-use Rattle.yt_interleave.specs.Moves.{after_tick, begun_of}
-use Rattle.yt_serial.specs.Judged.{IsRunnable}
+use Rattle.yt_interleave.specs.Interleaved.{ActiveJob, whole_of, with_begun, with_idle}
+use Rattle.yt_interleave.specs.Moves.{after_tick, active_job}
+use Rattle.yt_serial.specs.Judged.{IsSchedulable}
 use Rattle.yt_interleave.specs.Runs.{IsRunning}
-use Rattle.yt_interleave.specs.Timing.{IsPending, IsLegalRun}
+use Rattle.yt_interleave.specs.Timing.{WaitsToBegin, IsRuleLog}
 use Rattle.yt_interleave.proofs.Executives.{executives_follow}
 use Rattle.yt_interleave.proofs.NextJobs.{next_job}
 use Rattle.yt_interleave.proofs.Whole.{grows, runs_go_on, runs_are_on_time}
 
 -- the rule's logs of one set are those of the same set
-legal_run : (g : GraphTree) (tasks : List Task) (plan : List PlanItem) (log : Ticks) → tasks ≡ tasks_of g → IsLegal tasks plan → IsEdfDdm tasks plan log → IsLegalRun g plan log
+legal_run : (g : GraphTree) (tasks : List Task) (plan : List PlanItem) (log : Ticks) → tasks ≡ tasks_of g → IsLegal tasks plan → IsEdfDdm tasks plan log → IsRuleLog g plan log
 legal_run g tasks plan log e legal rule = record { legal = subst (λ (ts : List Task). IsLegal ts plan) e legal; rule = subst (λ (ts : List Task). IsEdfDdm ts plan log) e rule }
 
-begins : (g : GraphTree) (trace : List Message) → IsRunnable g trace → (s : Serial) (r : own.Moment) (plan : List PlanItem) (lines : List OutLine)
+begins : (g : GraphTree) (trace : List Message) → IsSchedulable g trace → (s : Serial) (r : own.RunState) (plan : List PlanItem) (lines : List OutLine)
     → IsRunning g trace s r (suc (length r.log)) plan lines → (old new : Moment) (left left' : Job → ℕ) → old.tasks ≡ tasks_of g → new.tasks ≡ old.tasks → StandsFor old left plan r.log → HasLeft g r left
     → (entry : Entry) → Contains old.entries entry → entry.begun ≡ false → (ended : Bool) → GoesOnTo old new left left' (Ran (job_in entry) ended)
-    → (m : PortMessage) → IsPending r (job_in entry) m → HasLeft g (after_tick g (begun_of (job_in entry) m s) (with_begun (job_in entry) m s.vars r)) left'
-    → GoesOnAs g trace (handle_message g (job_in entry) m s) (after_tick g (begun_of (job_in entry) m s) (with_begun (job_in entry) m s.vars r)) (suc (length r.log))
+    → (m : PortMessage) → WaitsToBegin r (job_in entry) m → HasLeft g (after_tick g (active_job (job_in entry) m s) (with_begun (job_in entry) m s.vars r)) left'
+    → StillStandsFor g trace (handle_message g (job_in entry) m s) (after_tick g (active_job (job_in entry) m s) (with_begun (job_in entry) m s.vars r)) (suc (length r.log))
     (plan_after left left' (Ran (job_in entry) ended) plan) lines new left'
 begins g trace able s r plan lines is old new left left' tasks kept stands has entry there fresh ended goes m pending has' =
     let job = job_in entry in
-    let b = begun_of job m s in
+    let b = active_job job m s in
     let r1 = with_begun job m s.vars r in
     let r2 = after_tick g b r1 in
     let plan2 = plan_after left left' (Ran job ended) plan in
@@ -60,24 +60,24 @@ begins g trace able s r plan lines is old new left left' tasks kept stands has e
     let on = goes plan r.log (subst (λ (ts : List Task). IsLegal ts plan) (sym tasks) is.by.legal) stands in
     let now : new.tasks ≡ tasks_of g = kept ∙ tasks in
     let rule = on.rule (subst (λ (ts : List Task). IsEdfDdm ts plan r.log) (sym now) is.by.rule) in
-    let by : IsLegalRun g plan2 (r.log ++ Some job ∷ []) = legal_run g new.tasks plan2 (r.log ++ Some job ∷ []) now on.legal rule in
+    let by : IsRuleLog g plan2 (r.log ++ Some job ∷ []) = legal_run g new.tasks plan2 (r.log ++ Some job ∷ []) now on.legal rule in
     let timely = runs_are_on_time.on_time g trace able s r (suc (length r.log)) plan lines is (omega arith) in
-    let free = runs_are_on_time.free g trace able s r (suc (length r.log)) plan lines is job m pending (left' job + 1) (subst (λ (p : List PlanItem). IsLegalRun g p (r.log ++ Some job ∷ [])) plan_is by) in
+    let free = runs_are_on_time.free g trace able s r (suc (length r.log)) plan lines is job m pending (left' job + 1) (subst (λ (p : List PlanItem). IsRuleLog g p (r.log ++ Some job ∷ [])) plan_is by) in
     let may = runs_are_on_time.may_begin g trace able s r is.interleaves timely job m pending free in
     let cost : left' job + 1 ≡ (whole_of g b).ticks = executives_follow.cost g trace able s r job m may pending.fresh left' has' in
     let same : plan2 ≡ with_cost job (whole_of g b).ticks plan = plan_is ∙ ap (λ (c : ℕ). with_cost job c plan) cost in
-    let next = runs_go_on.begins g trace able s r plan lines is job m pending (subst (λ (p : List PlanItem). IsLegalRun g p (r.log ++ Some job ∷ [])) same by) in
+    let next = runs_go_on.begins g trace able s r plan lines is job m pending (subst (λ (p : List PlanItem). IsRuleLog g p (r.log ++ Some job ∷ [])) same by) in
     let log : r2.log ≡ r.log ++ Some job ∷ [] = grows g b r1 in
     record {
       running = subst (λ (p : List PlanItem). IsRunning g trace (handle_message g job m s) r2 (suc (length r.log)) p lines) (sym same) next;
       stands = subst (StandsFor new left' plan2) (sym log) on.stands;
     }
 
-goes_on : (g : GraphTree) (trace : List Message) → IsRunnable g trace → (s : Serial) (r : own.Moment) (plan : List PlanItem) (lines : List OutLine)
+goes_on : (g : GraphTree) (trace : List Message) → IsSchedulable g trace → (s : Serial) (r : own.RunState) (plan : List PlanItem) (lines : List OutLine)
     → IsRunning g trace s r (suc (length r.log)) plan lines → (old new : Moment) (left left' : Job → ℕ) → old.tasks ≡ tasks_of g → new.tasks ≡ old.tasks → StandsFor old left plan r.log → HasLeft g r left
     → (entry : Entry) → Contains old.entries entry → entry.begun ≡ true → (ended : Bool) → GoesOnTo old new left left' (Ran (job_in entry) ended)
-    → (b : Begun) → r.active entry.task ≡ Some b → b.job ≡ job_in entry
-    → GoesOnAs g trace s (after_tick g b r) (suc (length r.log)) plan lines new left'
+    → (b : ActiveJob) → r.active entry.task ≡ Some b → b.job ≡ job_in entry
+    → StillStandsFor g trace s (after_tick g b r) (suc (length r.log)) plan lines new left'
 goes_on g trace able s r plan lines is old new left left' tasks kept stands has entry there begun ended goes b at same =
     let job = job_in entry in
     let plan2 = plan_after left left' (Ran job ended) plan in
@@ -88,18 +88,18 @@ goes_on g trace able s r plan lines is old new left left' tasks kept stands has 
     let on = goes plan r.log (subst (λ (ts : List Task). IsLegal ts plan) (sym tasks) is.by.legal) stands in
     let now : new.tasks ≡ tasks_of g = kept ∙ tasks in
     let rule = on.rule (subst (λ (ts : List Task). IsEdfDdm ts plan r.log) (sym now) is.by.rule) in
-    let by : IsLegalRun g plan2 (r.log ++ Some job ∷ []) = legal_run g new.tasks plan2 (r.log ++ Some job ∷ []) now on.legal rule in
-    let by2 : IsLegalRun g plan (r.log ++ Some b.job ∷ []) =
-    subst (λ (j : Job). IsLegalRun g plan (r.log ++ Some j ∷ [])) (sym same) (subst (λ (p : List PlanItem). IsLegalRun g p (r.log ++ Some job ∷ [])) plan_is by) in
+    let by : IsRuleLog g plan2 (r.log ++ Some job ∷ []) = legal_run g new.tasks plan2 (r.log ++ Some job ∷ []) now on.legal rule in
+    let by2 : IsRuleLog g plan (r.log ++ Some b.job ∷ []) =
+    subst (λ (j : Job). IsRuleLog g plan (r.log ++ Some j ∷ [])) (sym same) (subst (λ (p : List PlanItem). IsRuleLog g p (r.log ++ Some job ∷ [])) plan_is by) in
     let log : (after_tick g b r).log ≡ r.log ++ Some job ∷ [] = grows g b r ∙ ap (λ (j : Job). r.log ++ Some j ∷ []) same in
     record {
       running = runs_go_on.ticks g trace able s r plan lines is entry.task b at by2;
       stands = subst (StandsFor new left' plan) (sym log) (subst (λ (p : List PlanItem). StandsFor new left' p (r.log ++ Some job ∷ [])) plan_is on.stands);
     }
 
-idles : (g : GraphTree) (trace : List Message) → IsRunnable g trace → (s : Serial) (r : own.Moment) (plan : List PlanItem) (lines : List OutLine)
+idles : (g : GraphTree) (trace : List Message) → IsSchedulable g trace → (s : Serial) (r : own.RunState) (plan : List PlanItem) (lines : List OutLine)
     → IsRunning g trace s r (suc (length r.log)) plan lines → (old new : Moment) (left left' : Job → ℕ) → old.tasks ≡ tasks_of g → new.tasks ≡ old.tasks → StandsFor old left plan r.log
-    → GoesOnTo old new left left' Idle → GoesOnAs g trace s (with_idle r) (suc (length r.log)) plan lines new left'
+    → GoesOnTo old new left left' Idle → StillStandsFor g trace s (with_idle r) (suc (length r.log)) plan lines new left'
 idles g trace able s r plan lines is old new left left' tasks kept stands goes =
     let on = goes plan r.log (subst (λ (ts : List Task). IsLegal ts plan) (sym tasks) is.by.legal) stands in
     let now : new.tasks ≡ tasks_of g = kept ∙ tasks in
@@ -109,9 +109,9 @@ idles g trace able s r plan lines is old new left left' tasks kept stands goes =
       stands = on.stands;
     }
 
-releases : (g : GraphTree) (r : own.Moment) (plan : List PlanItem) (old new : Moment) (left : Job → ℕ) → old.tasks ≡ tasks_of g → new.tasks ≡ old.tasks → StandsFor old left plan r.log → IsLegalRun g plan r.log
+releases : (g : GraphTree) (r : own.RunState) (plan : List PlanItem) (old new : Moment) (left : Job → ℕ) → old.tasks ≡ tasks_of g → new.tasks ≡ old.tasks → StandsFor old left plan r.log → IsRuleLog g plan r.log
     → (job : Job) → GoesOnWith old new job → 1 ≤ (task_in old.tasks job).cost
-    → StandsFor new left (plan ++ item_at old.clock job 1 ∷ []) r.log × IsLegalRun g (plan ++ item_at old.clock job 1 ∷ []) r.log
+    → StandsFor new left (plan ++ item_at old.clock job 1 ∷ []) r.log × IsRuleLog g (plan ++ item_at old.clock job 1 ∷ []) r.log
 releases g r plan old new left tasks kept stands by job goes most =
     let on = goes left plan r.log (subst (λ (ts : List Task). IsLegal ts plan) (sym tasks) by.legal) stands 1 (omega arith) most in
     let now : new.tasks ≡ tasks_of g = kept ∙ tasks in

@@ -22,16 +22,16 @@ use Rattle.yt_serial.specs.declared.shown.OutLine.{OutLine}
 use Rattle.yt_serial.specs.declared.trace.Message.{Message}
 use Rattle.yt_serial.specs.PortMessages.{PortMessage, numbered}
 use Rattle.yt_serial.specs.SerialHandling.{Serial, messages_at, items_of, handled_of, no_port}
-use Rattle.yt_interleave.specs.Executives.{HasLeft, AllPlaced, ExecutivesFollow}
+use Rattle.yt_interleave.specs.Executives.{HasLeft, AllReleased, ExecutivesFollow}
 use Rattle.yt_interleave.specs.Interleaved as own
-use Rattle.yt_interleave.specs.Interleaved.{Begun, port_at, group_at, known_at, on_way, put, whole_of, item_of, with_begun, with_tick, with_end}
+use Rattle.yt_interleave.specs.Interleaved.{ActiveJob, port_at, group_at, known_at, to_come, put, whole_of, item_of, with_begun, with_tick, with_end}
 use Rattle.yt_serial.specs.Beginnings.{nth_job}
-use Rattle.yt_interleave.specs.Moves.{MayBegin, after_tick, begun_of, IsOver}
-use Rattle.yt_serial.specs.Judged.{IsRunnable}
+use Rattle.yt_interleave.specs.Moves.{MayBegin, after_tick, active_job, IsOver}
+use Rattle.yt_serial.specs.Judged.{IsSchedulable}
 use Rattle.yt_interleave.specs.Runs.{IsRunning}
-use Rattle.yt_interleave.specs.Timing.{IsPending, IsResourceFree}
+use Rattle.yt_interleave.specs.Timing.{WaitsToBegin, IsResourceFree}
 use Rattle.yt_serial.proofs.Lemmas.{done_this, port_task}
-use Rattle.yt_interleave.proofs.Over.{on_way_none}
+use Rattle.yt_interleave.proofs.Over.{to_come_none}
 use Rattle.yt_interleave.proofs.Pieces.{placed_none, put_same}
 use Rattle.yt_interleave.proofs.Steps.{after_last, after_other}
 use Rattle.yt_interleave.proofs.Timing.{serial}
@@ -71,20 +71,20 @@ group_is g n = by (numbered g.ports n) refl
         ap (λ (o : Option PortTree). (unwrap_or o no_port).group) is ∙ sym (ap (λ (k : Task). k.resource) t.2)
     by None is = ap (λ (o : Option PortTree). (unwrap_or o no_port).group) is ∙ sym (no_resource g n is)
 
-module _ (g : GraphTree) (trace : List Message) (able : IsRunnable g trace) (s : Serial) (r : own.Moment) (due : ℕ) (plan : List PlanItem) (lines : List OutLine)
+module _ (g : GraphTree) (trace : List Message) (able : IsSchedulable g trace) (s : Serial) (r : own.RunState) (due : ℕ) (plan : List PlanItem) (lines : List OutLine)
     (is : IsRunning g trace s r due plan lines) (moment : Moment) (left : Job → ℕ) (stands : StandsFor moment left plan r.log) where
   -- an item of the plan that has begun and waits is under way
-  active_item : (z : PlanItem) → Has plan z → 0 < done r.log z.job (length r.log) → done r.log z.job (length r.log) < z.cost → (b : Begun) × (r.active z.job.task ≡ Some b) × (b.job ≡ z.job)
+  active_item : (z : PlanItem) → Has plan z → 0 < done r.log z.job (length r.log) → done r.log z.job (length r.log) < z.cost → (b : ActiveJob) × (r.active z.job.task ≡ Some b) × (b.job ≡ z.job)
   active_item z has begun unfinished =
       let y = is.interleaves.stands.named z.job begun in
       let same : y.0 ≡ z = one_item (tasks_of g) plan is.by.legal y.0 z (is.goes.begun y.0 y.1) has y.2 in
       let old : Has (items_of s) z = subst (λ (x : PlanItem). Has (items_of s) x) same y.1 in
       ⊎_elim
-      (λ (a : (b : Begun) × (r.active z.job.task ≡ Some b) × (z ≡ item_of g b)). (a.0, a.1, ap (λ (x : PlanItem). x.job) (sym a.2)))
+      (λ (a : (b : ActiveJob) × (r.active z.job.task ≡ Some b) × (z ≡ item_of g b)). (a.0, a.1, ap (λ (x : PlanItem). x.job) (sym a.2)))
       (λ (e : done r.log z.job (length r.log) ≡ z.cost). absurd (omega arith))
       (is.interleaves.stands.ended z old)
 
-  pending : (entry : Entry) → Contains moment.entries entry → entry.begun ≡ false → (m : PortMessage) × IsPending r (job_in entry) m
+  pending : (entry : Entry) → Contains moment.entries entry → entry.begun ≡ false → (m : PortMessage) × WaitsToBegin r (job_in entry) m
   pending entry has fresh =
       let o = stands.only entry has in
       let z = o.0 in
@@ -93,10 +93,10 @@ module _ (g : GraphTree) (trace : List Message) (able : IsRunnable g trace) (s :
       let none = entry_fresh moment.tasks r.log z (ap (λ (x : Entry). x.begun) (sym o.3) ∙ fresh) in
       let come = o.2.arrived in
       let time = k.2 in
-      let p : IsPending r z.job k.0 = record { there = k.1; arrived = omega arith; fresh = none } in
-      (k.0, subst (λ (j : Job). IsPending r j k.0) (sym job) p)
+      let p : WaitsToBegin r z.job k.0 = record { there = k.1; arrived = omega arith; fresh = none } in
+      (k.0, subst (λ (j : Job). WaitsToBegin r j k.0) (sym job) p)
 
-  under_way : (entry : Entry) → Contains moment.entries entry → entry.begun ≡ true → (b : Begun) × (r.active entry.task ≡ Some b) × (b.job ≡ job_in entry)
+  under_way : (entry : Entry) → Contains moment.entries entry → entry.begun ≡ true → (b : ActiveJob) × (r.active entry.task ≡ Some b) × (b.job ≡ job_in entry)
   under_way entry has begun =
       let o = stands.only entry has in
       let z = o.0 in
@@ -106,7 +106,7 @@ module _ (g : GraphTree) (trace : List Message) (able : IsRunnable g trace) (s :
       (a.0, ap r.active (ap (λ (j : Job). j.task) job) ∙ a.1, a.2 ∙ sym job)
 
   -- no item of the plan waits
-  over : length r.log ≤ due → due ≤ suc (length r.log) → AllPlaced r due → moment.entries ≡ [] → IsOver g s r
+  over : length r.log ≤ due → due ≤ suc (length r.log) → AllReleased r due → moment.entries ≡ [] → IsOver g s r
   over low high placed none =
       let idle : (z : PlanItem) → Has plan z → IsWaiting r.log (length r.log) z → ⊥ = λ z has w. no_entry (entry_of moment.tasks r.log z) (subst (λ es. Contains es (entry_of moment.tasks r.log z)) none (stands.waiting z has w)) in
       let quiet : (port : ℕ) → r.active port ≡ None = λ port. none_at port (r.active port) refl idle in
@@ -115,7 +115,7 @@ module _ (g : GraphTree) (trace : List Message) (able : IsRunnable g trace) (s :
       no_entry : (e : Entry) → Contains {X = Entry} [] e → ⊥
       no_entry e h = let k = h.1 in absurd (omega arith)
 
-      none_at : (port : ℕ) (o : Option Begun) → r.active port ≡ o → ((z : PlanItem) → Has plan z → IsWaiting r.log (length r.log) z → ⊥) → r.active port ≡ None
+      none_at : (port : ℕ) (o : Option ActiveJob) → r.active port ≡ o → ((z : PlanItem) → Has plan z → IsWaiting r.log (length r.log) z → ⊥) → r.active port ≡ None
       none_at port None at idle = at
       none_at port (Some b) at idle =
           let u = is.interleaves.stands.under_way port b at in
@@ -132,7 +132,7 @@ module _ (g : GraphTree) (trace : List Message) (able : IsRunnable g trace) (s :
       all_at : (port : ℕ) → ((z : PlanItem) → Has plan z → IsWaiting r.log (length r.log) z → ⊥) → ((p : ℕ) → r.active p ≡ None) → handled_of s port ≡ length (known_at r port)
       all_at port idle quiet =
           let st = is.interleaves.stands in
-          let same : s.messages ≡ r.messages = st.messages ∙ placed_none (on_way g r.active) (on_way_none g r.active quiet) g.ports r.messages st.long in
+          let same : s.messages ≡ r.messages = st.messages ∙ placed_none (to_come g r.active) (to_come_none g r.active quiet) g.ports r.messages st.long in
           let holds = serial g trace able.can s r is.interleaves in
           -- each handled message is known
           let most : handled_of s port ≤ length (known_at r port) =
@@ -170,8 +170,8 @@ module _ (g : GraphTree) (trace : List Message) (able : IsRunnable g trace) (s :
           (numbered_last (known_at r port)) in
           omega arith
 
-free : (g : GraphTree) (r : own.Moment) (left : Job → ℕ) → HasLeft g r left → (job : Job) → IsFree (tasks_of g) left job
-    → ((port : ℕ) (b : Begun) → r.active port ≡ Some b → (b.job.task ≡ port) × (done r.log b.job (length r.log) < (whole_of g b).ticks)) → IsResourceFree g r job.task
+free : (g : GraphTree) (r : own.RunState) (left : Job → ℕ) → HasLeft g r left → (job : Job) → IsFree (tasks_of g) left job
+    → ((port : ℕ) (b : ActiveJob) → r.active port ≡ Some b → (b.job.task ≡ port) × (done r.log b.job (length r.log) < (whole_of g b).ticks)) → IsResourceFree g r job.task
 free g r left has job is_free going port b at_port some same =
     let here = going port b at_port in
     let a = has.active port b at_port in
@@ -181,16 +181,16 @@ free g r left has job is_free going port b at_port some same =
     let task : (numbers.task_of (tasks_of g) b.job.task).resource ≡ (numbers.task_of (tasks_of g) port).resource = ap (λ (n : ℕ). (numbers.task_of (tasks_of g) n).resource) here.0 in
     is_free (omega arith) b.job (omega arith) (task ∙ sym other ∙ same ∙ mine)
 
-cost : (g : GraphTree) (trace : List Message) → IsRunnable g trace → (s : Serial) (r : own.Moment) (job : Job) (m : PortMessage) → MayBegin g s r job m
-    → done r.log job (length r.log) ≡ 0 → (left : Job → ℕ) → HasLeft g (after_tick g (begun_of job m s) (with_begun job m s.vars r)) left
-    → left job + 1 ≡ (whole_of g (begun_of job m s)).ticks
+cost : (g : GraphTree) (trace : List Message) → IsSchedulable g trace → (s : Serial) (r : own.RunState) (job : Job) (m : PortMessage) → MayBegin g s r job m
+    → done r.log job (length r.log) ≡ 0 → (left : Job → ℕ) → HasLeft g (after_tick g (active_job job m s) (with_begun job m s.vars r)) left
+    → left job + 1 ≡ (whole_of g (active_job job m s)).ticks
 cost g trace able s r job m may fresh left has =
-    let b = begun_of job m s in
+    let b = active_job job m s in
     let r1 = with_begun job m s.vars r in
     let this : done (with_tick g b r1).log job (length (with_tick g b r1).log) ≡ suc (done r.log job (length r.log)) = done_this r.log (Some job) job refl in
     ⊎_elim
     (λ (e : done r1.log b.job (length r1.log) + 1 ≡ (whole_of g b).ticks).
-    let h = subst (λ (x : own.Moment). HasLeft g x left) (after_last g b r1 e) has in
+    let h = subst (λ (x : own.RunState). HasLeft g x left) (after_last g b r1 e) has in
     ⊎_elim
     (λ (lt : 0 < left job).
     let a = h.only job lt in
@@ -198,7 +198,7 @@ cost g trace able s r job m may fresh left has =
     (λ (ge : left job ≤ 0). omega arith)
     (cases_lt 0 (left job)))
     (λ (ne : done r1.log b.job (length r1.log) + 1 ≡ (whole_of g b).ticks → ⊥).
-    let h = subst (λ (x : own.Moment). HasLeft g x left) (after_other g b r1 ne) has in
+    let h = subst (λ (x : own.RunState). HasLeft g x left) (after_other g b r1 ne) has in
     let a = h.active job.task b (put_same job.task (Some b) r.active job.task refl) in
     omega arith)
     (cases_eq (done r1.log b.job (length r1.log) + 1) (whole_of g b).ticks)

@@ -9,7 +9,7 @@ pub mod HandlerSends
 pub mod HandlerWrites
 pub mod Machines
 pub mod NextJobs
-pub mod OnWay
+pub mod MidHandling
 pub mod Over
 pub mod Pieces
 pub mod Plans

@@ -22,7 +22,7 @@ use Rattle.yt_serial.specs.Beginnings.{order_of}
 use Rattle.yt_serial.specs.PortMessages.{PortMessage}
 use Rattle.yt_serial.specs.SerialHandling.{Serial}
 use Rattle.yt_serial.specs.Variables.{after_writes, writes_at}
-use Rattle.yt_interleave.specs.Interleaved.{Begun, Moment, port_at, value_at, whole_of}
+use Rattle.yt_interleave.specs.Interleaved.{ActiveJob, RunState, port_at, value_at, whole_of}
 use Rattle.yt_serial.specs.Laws.{CanRun}
 use Rattle.yt_interleave.specs.Machines.{IsAloneAt, GoesOnAlone, EndsAlone, IsTickOf, left_more, left_by, ticks_left, MachinesGoOn}
 use Rattle.yt_interleave.specs.Moves.{MayBegin, Interleaves}
@@ -191,8 +191,8 @@ module _ (code : Program) (port : PortTree) (msg vars : List ℤ) (means : Means
         values = λ v h. same v (subst (λ (xs : List ℕ). Contains xs v) own h) ∙ ap (λ (xs : List ℤ). value_at xs v) (sym here);
       }
 
-module _ (g : GraphTree) (trace : List Message) (can : CanRun g trace) (s : Serial) (r : Moment) (is : Interleaves g trace s r) where
-  module _ (port : ℕ) (b : Begun) (at_port : r.active port ≡ Some b) (code : Program) (means : MeansPort code (port_at g port)) (own : UsesVarsOf code (port_at g port))
+module _ (g : GraphTree) (trace : List Message) (can : CanRun g trace) (s : Serial) (r : RunState) (is : Interleaves g trace s r) where
+  module _ (port : ℕ) (b : ActiveJob) (at_port : r.active port ≡ Some b) (code : Program) (means : MeansPort code (port_at g port)) (own : UsesVarsOf code (port_at g port))
       (p : Progress) (alone : IsAloneAt code b.message.values b.vars (done r.log b.job (length r.log)) p) where
     abbrev n : ℕ
     n = done r.log b.job (length r.log)

@@ -21,7 +21,7 @@ use Rattle.yt_serial.specs.PortMessages.{PortMessage, numbered}
 use Rattle.yt_serial.specs.SerialHandling.{Serial}
 use Rattle.yt_interleave.specs.Interleaved as own
 use Rattle.yt_interleave.specs.Interleaved.{known_at}
-use Rattle.yt_serial.specs.Judged.{IsRunnable}
+use Rattle.yt_serial.specs.Judged.{IsSchedulable}
 use Rattle.yt_interleave.specs.Runs.{IsRunning}
 use Rattle.yt_interleave.proofs.Timing.{known_port, known_first, apart, period_some, number_before, number_some}
 use Rattle.yt_serial.proofs.Lemmas.{port_task}
@@ -106,7 +106,7 @@ last_of tasks before (x ∷ items) last task legal is =
     }))
     (cases_eq x.job.task task)
 
-module _ (g : GraphTree) (trace : List Message) (able : IsRunnable g trace) (s : Serial) (r : own.Moment) (plan : List PlanItem) (lines : List OutLine)
+module _ (g : GraphTree) (trace : List Message) (able : IsSchedulable g trace) (s : Serial) (r : own.RunState) (plan : List PlanItem) (lines : List OutLine)
     (is : IsRunning g trace s r (length r.log) plan lines) (moment : Moment) (left : Job → ℕ) (wider : List PlanItem) (tasks : moment.tasks ≡ tasks_of g) (stands : StandsFor moment left wider r.log)
     (legal : IsLegal (tasks_of g) wider) (port n : ℕ) (m : PortMessage) (there : numbered (known_at r port) n ≡ Some m) (now : m.time ≡ length r.log)
     (into : (z : PlanItem) → Has plan z → Has wider z) (back : (z : PlanItem) → Has wider z → z.job.task ≡ port → Has plan z) where
@@ -174,7 +174,7 @@ module _ (g : GraphTree) (trace : List Message) (able : IsRunnable g trace) (s :
       (cases_eq n 1) in
       omega arith
 
-pub next_job : (g : GraphTree) (trace : List Message) → IsRunnable g trace → (s : Serial) (r : own.Moment) (plan : List PlanItem) (lines : List OutLine)
+pub next_job : (g : GraphTree) (trace : List Message) → IsSchedulable g trace → (s : Serial) (r : own.RunState) (plan : List PlanItem) (lines : List OutLine)
     → IsRunning g trace s r (length r.log) plan lines → (moment : Moment) (left : Job → ℕ) (wider : List PlanItem) → moment.tasks ≡ tasks_of g → StandsFor moment left wider r.log
     → IsLegal (tasks_of g) wider → (port n : ℕ) (m : PortMessage) → numbered (known_at r port) n ≡ Some m → m.time ≡ length r.log
     → ((z : PlanItem) → Has plan z → Has wider z) → ((z : PlanItem) → Has wider z → z.job.task ≡ port → Has plan z) → IsNextJob moment (nth_job port n)

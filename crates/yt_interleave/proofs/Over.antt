@@ -28,18 +28,18 @@ use Rattle.yt_serial.proofs.Lemmas.{begun_below-append, plans_are_legal, feed_ca
 use Rattle.yt_rates.specs.Rates.{period_of}
 use Rattle.yt_rates.specs.Tables.{tasks_of}
 use Rattle.yt_serial.specs.Variables.{after_writes, writes_in, writes_below}
-use Rattle.yt_interleave.specs.Interleaved.{Begun, Moment, value_at, passed_by, on_way, item_of, IsInUse, StandsFor}
+use Rattle.yt_interleave.specs.Interleaved.{ActiveJob, RunState, value_at, passed_by, to_come, item_of, IsInUse, MatchesSerial}
 use Rattle.yt_serial.specs.Laws.{CanRun, VariablesStay}
-use Rattle.yt_interleave.specs.Laws.{IsSerialRun, EndsAreSerial, VariablesAreWritten}
+use Rattle.yt_interleave.specs.Laws.{HasHandledAll, EndsAreSerial, VariablesAreWritten}
 use Rattle.yt_interleave.specs.Moves.{Interleaves, IsOver}
 use Rattle.yt_interleave.proofs.Begin.{serial}
 use Rattle.yt_interleave.proofs.Pieces.{placed_none}
 
-pub on_way_none : (g : GraphTree) (active : ℕ → Option Begun) → ((port : ℕ) → active port ≡ None) → (f : Feed) → on_way g active f ≡ []
-on_way_none g active none f =
+pub to_come_none : (g : GraphTree) (active : ℕ → Option ActiveJob) → ((port : ℕ) → active port ≡ None) → (f : Feed) → to_come g active f ≡ []
+to_come_none g active none f =
     ⊎_elim
-    (λ (i : (input : ℕ) × (f ≡ Input input)). ap (on_way g active) i.1)
-    (λ (o : (source out : ℕ) × (f ≡ Out source out)). ap (on_way g active) o.2 ∙ ap (λ (b : Option Begun). passed_by g b o.1) (none o.0))
+    (λ (i : (input : ℕ) × (f ≡ Input input)). ap (to_come g active) i.1)
+    (λ (o : (source out : ℕ) × (f ≡ Out source out)). ap (to_come g active) o.2 ∙ ap (λ (b : Option ActiveJob). passed_by g b o.1) (none o.0))
     (feed_cases f)
 
 -- lists of one length with the same values
@@ -50,8 +50,8 @@ same_values (v ∷ vs) [] long same = absurd (omega arith)
 same_values (v ∷ vs) (u ∷ us) long same =
     ap (λ (x : ℤ). x ∷ vs) (same 0) ∙ ap (λ (xs : List ℤ). u ∷ xs) (same_values vs us (omega arith) (λ n. same (suc n)))
 
-module _ (g : GraphTree) (trace : List Message) (can : CanRun g trace) (s : Serial) (r : Moment) (is : Interleaves g trace s r) where
-  abbrev stands : StandsFor g trace (order_of r.log) s r
+module _ (g : GraphTree) (trace : List Message) (can : CanRun g trace) (s : Serial) (r : RunState) (is : Interleaves g trace s r) where
+  abbrev stands : MatchesSerial g trace (order_of r.log) s r
   stands = is.stands
 
   plan_is : plan_of_log g trace r.log ≡ plan_of s
@@ -64,18 +64,18 @@ module _ (g : GraphTree) (trace : List Message) (can : CanRun g trace) (s : Seri
   plan_has z has = subst (λ (is : List PlanItem). Has is z) (sym plan_is) (sorted_has item_before (items_of s) z has)
 
   module _ (over : IsOver g s r) where
-    not_active : (z : PlanItem) → (b : Begun) × (r.active z.job.task ≡ Some b) × (z ≡ item_of g b) → ⊥
+    not_active : (z : PlanItem) → (b : ActiveJob) × (r.active z.job.task ≡ Some b) × (z ≡ item_of g b) → ⊥
     not_active z (b, at, e) = none-some b (sym (over.none z.job.task) ∙ at)
 
     finished : (z : PlanItem) → Has (items_of s) z → done r.log z.job (length r.log) ≡ z.cost
     finished z has =
         ⊎_elim
-        (λ (a : (b : Begun) × (r.active z.job.task ≡ Some b) × (z ≡ item_of g b)). absurd (not_active z a))
+        (λ (a : (b : ActiveJob) × (r.active z.job.task ≡ Some b) × (z ≡ item_of g b)). absurd (not_active z a))
         (λ (e : done r.log z.job (length r.log) ≡ z.cost). e)
         (stands.ended z has)
 
     messages_same : s.messages ≡ r.messages
-    messages_same = stands.messages ∙ placed_none (on_way g r.active) (on_way_none g r.active over.none) g.ports r.messages stands.long
+    messages_same = stands.messages ∙ placed_none (to_come g r.active) (to_come_none g r.active over.none) g.ports r.messages stands.long
 
     all_handled : AllHandled g s
     all_handled port some most = over.all port some most ∙ ap (λ (ms : List (List PortMessage)). length (unwrap_or (numbered ms port) [])) (sym messages_same)
@@ -135,7 +135,7 @@ module _ (g : GraphTree) (trace : List Message) (can : CanRun g trace) (s : Seri
         not_used : IsInUse g r.active v → ⊥
         not_used (p, b, at, uses) = none-some b (sym (over.none p) ∙ at)
 
-    pub told : IsSerialRun g trace s r
+    pub told : HasHandledAll g trace s r
     told = record {
       along = stands.along;
       all = all_handled;

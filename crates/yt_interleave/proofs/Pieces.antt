@@ -9,7 +9,7 @@ use Rattle.yt_graph.specs.Picture.{GraphTree, PortTree}
 use Rattle.yt_log.specs.Tasks.{Has}
 use Rattle.yt_serial.specs.PortMessages.{PortMessage}
 use Rattle.yt_serial.specs.SerialHandling.{placed, brought}
-use Rattle.yt_interleave.specs.Interleaved.{Begun, put, added, on_way, passed_by, passes_of}
+use Rattle.yt_interleave.specs.Interleaved.{ActiveJob, put, added, to_come, passed_by, passes_of}
 
 pub put_same : {X : Type 0} (n : ℕ) (x : X) (f : ℕ → X) (m : ℕ) → m ≡ n → put n x f m ≡ x
 put_same n x f m e = cond-true (eqb m n) x (f m) (eq-eqb m n e)
@@ -72,31 +72,31 @@ added_at a (g ∷ feeds) (before ∷ ms) zero f long there = ap (λ (o : Option 
 added_at a (g ∷ feeds) (before ∷ ms) (suc k) f long there = added_at a feeds ms k f (omega arith) there
 
 -- a job that begins adds its messages to those that are on their way
-pub on_way_begun : (g : GraphTree) (active : ℕ → Option Begun) (task : ℕ) (b : Begun) → active task ≡ None → (f : Feed)
-    → on_way g active f ++ brought task (passes_of g b) f ≡ on_way g (put task (Some b) active) f
-on_way_begun g active task b free (feed.TheVariants.Input input) = refl
-on_way_begun g active task b free (feed.TheVariants.Out port out) =
+pub to_come_begun : (g : GraphTree) (active : ℕ → Option ActiveJob) (task : ℕ) (b : ActiveJob) → active task ≡ None → (f : Feed)
+    → to_come g active f ++ brought task (passes_of g b) f ≡ to_come g (put task (Some b) active) f
+to_come_begun g active task b free (feed.TheVariants.Input input) = refl
+to_come_begun g active task b free (feed.TheVariants.Out port out) =
     ⊎_elim
     (λ (e : port ≡ task).
-    let new : passed_by g (put task (Some b) active port) out ≡ passes_of g b out = ap (λ (o : Option Begun). passed_by g o out) (put_same task (Some b) active port e) in
-    let old : passed_by g (active port) out ≡ [] = ap (λ (o : Option Begun). passed_by g o out) (ap active e ∙ free) in
+    let new : passed_by g (put task (Some b) active port) out ≡ passes_of g b out = ap (λ (o : Option ActiveJob). passed_by g o out) (put_same task (Some b) active port e) in
+    let old : passed_by g (active port) out ≡ [] = ap (λ (o : Option ActiveJob). passed_by g o out) (ap active e ∙ free) in
     ap (λ (x : List PortMessage). x ++ brought task (passes_of g b) (feed.TheVariants.Out port out)) old ∙ cond-true (eqb port task) (passes_of g b out) [] (eq-eqb port task e) ∙ sym new)
     (λ (ne : port ≡ task → ⊥).
-    let new : passed_by g (put task (Some b) active port) out ≡ passed_by g (active port) out = ap (λ (o : Option Begun). passed_by g o out) (put_other task (Some b) active port ne) in
+    let new : passed_by g (put task (Some b) active port) out ≡ passed_by g (active port) out = ap (λ (o : Option ActiveJob). passed_by g o out) (put_other task (Some b) active port ne) in
     ap (λ (x : List PortMessage). passed_by g (active port) out ++ x) (cond-false (eqb port task) (passes_of g b out) [] (ne_eqb port task ne)) ∙ append-nil (passed_by g (active port) out) ∙ sym new)
     (cases_eq port task)
 
 -- and one that ends takes them from there
-pub on_way_ended : (g : GraphTree) (active : ℕ → Option Begun) (task : ℕ) (b : Begun) → active task ≡ Some b → (f : Feed)
-    → brought task (passes_of g b) f ++ on_way g (put task None active) f ≡ on_way g active f
-on_way_ended g active task b there (feed.TheVariants.Input input) = refl
-on_way_ended g active task b there (feed.TheVariants.Out port out) =
+pub to_come_ended : (g : GraphTree) (active : ℕ → Option ActiveJob) (task : ℕ) (b : ActiveJob) → active task ≡ Some b → (f : Feed)
+    → brought task (passes_of g b) f ++ to_come g (put task None active) f ≡ to_come g active f
+to_come_ended g active task b there (feed.TheVariants.Input input) = refl
+to_come_ended g active task b there (feed.TheVariants.Out port out) =
     ⊎_elim
     (λ (e : port ≡ task).
-    let new : passed_by g (put task None active port) out ≡ [] = ap (λ (o : Option Begun). passed_by g o out) (put_same task None active port e) in
-    let old : passed_by g (active port) out ≡ passes_of g b out = ap (λ (o : Option Begun). passed_by g o out) (ap active e ∙ there) in
+    let new : passed_by g (put task None active port) out ≡ [] = ap (λ (o : Option ActiveJob). passed_by g o out) (put_same task None active port e) in
+    let old : passed_by g (active port) out ≡ passes_of g b out = ap (λ (o : Option ActiveJob). passed_by g o out) (ap active e ∙ there) in
     ap (λ (x : List PortMessage). brought task (passes_of g b) (feed.TheVariants.Out port out) ++ x) new ∙ append-nil _ ∙ cond-true (eqb port task) (passes_of g b out) [] (eq-eqb port task e) ∙ sym old)
     (λ (ne : port ≡ task → ⊥).
-    let new : passed_by g (put task None active port) out ≡ passed_by g (active port) out = ap (λ (o : Option Begun). passed_by g o out) (put_other task None active port ne) in
+    let new : passed_by g (put task None active port) out ≡ passed_by g (active port) out = ap (λ (o : Option ActiveJob). passed_by g o out) (put_other task None active port ne) in
     ap (λ (x : List PortMessage). x ++ passed_by g (put task None active port) out) (cond-false (eqb port task) (passes_of g b out) [] (ne_eqb port task ne)) ∙ new)
     (cases_eq port task)

@@ -26,10 +26,10 @@ use Rattle.yt_serial.specs.PortMessages.{PortMessage, numbered}
 use Rattle.yt_serial.specs.SerialHandling.{Handled, Serial, items_of, brought, handle_message}
 use Rattle.yt_serial.proofs.Lemmas.{placed_at, placed-length, port_there, get_cases, numbered_left, length_push}
 use Rattle.yt_interleave.specs.Interleaved as own
-use Rattle.yt_interleave.specs.Interleaved.{Begun, Moment, port_at, known_at, whole_of, item_of, passes_of, with_begun, with_tick, with_end, with_idle, StandsFor}
+use Rattle.yt_interleave.specs.Interleaved.{ActiveJob, RunState, port_at, known_at, whole_of, item_of, passes_of, with_begun, with_tick, with_end, with_idle, MatchesSerial}
 use Rattle.yt_serial.specs.Laws.{CanRun}
-use Rattle.yt_interleave.specs.Moves.{MayBegin, after_tick, begun_of, Interleaves, IsOver}
-use Rattle.yt_interleave.specs.Timing.{GoesWith}
+use Rattle.yt_interleave.specs.Moves.{MayBegin, after_tick, active_job, Interleaves, IsOver}
+use Rattle.yt_interleave.specs.Timing.{IsPlanOfRun}
 use Rattle.yt_interleave.proofs.Begin as begin
 use Rattle.yt_log.proofs.Members.{has_append, has_left, has_right}
 use Rattle.yt_interleave.proofs.Steps.{after_last, after_other}
@@ -61,18 +61,18 @@ pub with_other : (job : Job) (c : ℕ) (plan : List PlanItem) (z : PlanItem) →
 with_other job c plan z ne has = subst (λ (x : PlanItem). Has (with_cost job c plan) x) (changed_no job c z ne) (has_from job c plan z has)
 
 -- what is known of each item and of each message
-abbrev IsKnownIn : Moment → PlanItem → Type 0
+abbrev IsKnownIn : RunState → PlanItem → Type 0
 IsKnownIn r z = (m : PortMessage) × (numbered (known_at r z.job.task) z.job.number ≡ Some m) × (m.time ≡ z.arrival)
 
 abbrev IsPlanned : List PlanItem → ℕ → ℕ → Type 0
 IsPlanned plan port n = (z : PlanItem) × (Has plan z) × (z.job ≡ nth_job port n)
 
 -- the messages whose time has come are released
-pub releases : (s : Serial) (r : Moment) (plan new : List PlanItem) → GoesWith s r (length r.log) plan
+pub releases : (s : Serial) (r : RunState) (plan new : List PlanItem) → IsPlanOfRun s r (length r.log) plan
     → ((z : PlanItem) → Has new z → IsKnownIn r z)
     → ((z : PlanItem) → Has new z → z.arrival ≡ length r.log)
     → ((port n : ℕ) (m : PortMessage) → numbered (known_at r port) n ≡ Some m → m.time ≡ length r.log → IsPlanned new port n)
-    → GoesWith s r (suc (length r.log)) (plan ++ new)
+    → IsPlanOfRun s r (suc (length r.log)) (plan ++ new)
 releases s r plan new goes known now all = record {
   begun = λ z has. has_left plan new z (goes.begun z has);
   known = λ z has. ⊎_elim (λ (h : Has plan z). goes.known z h) (λ (h : Has new z). known z h) (has_append plan new z has);
@@ -84,15 +84,15 @@ releases s r plan new goes known now all = record {
 }
 
 -- a job's messages become known when it ends: none of them is due before its deadline
-module _ (g : GraphTree) (b : Begun) (r : Moment) (long : length r.messages ≡ length g.ports) (deadline : length r.log < b.message.time + period_of g (port_at g b.job.task)) where
-  abbrev r' : Moment
+module _ (g : GraphTree) (b : ActiveJob) (r : RunState) (long : length r.messages ≡ length g.ports) (deadline : length r.log < b.message.time + period_of g (port_at g b.job.task)) where
+  abbrev r' : RunState
   r' = after_tick g b r
 
   longer : length r'.log ≡ suc (length r.log)
   longer =
       ⊎_elim
-      (λ (e : done r.log b.job (length r.log) + 1 ≡ (whole_of g b).ticks). ap (λ (x : Moment). length x.log) (after_last g b r e) ∙ length_push r.log (Some b.job))
-      (λ (ne : done r.log b.job (length r.log) + 1 ≡ (whole_of g b).ticks → ⊥). ap (λ (x : Moment). length x.log) (after_other g b r ne) ∙ length_push r.log (Some b.job))
+      (λ (e : done r.log b.job (length r.log) + 1 ≡ (whole_of g b).ticks). ap (λ (x : RunState). length x.log) (after_last g b r e) ∙ length_push r.log (Some b.job))
+      (λ (ne : done r.log b.job (length r.log) + 1 ≡ (whole_of g b).ticks → ⊥). ap (λ (x : RunState). length x.log) (after_other g b r ne) ∙ length_push r.log (Some b.job))
       (cases_eq (done r.log b.job (length r.log) + 1) (whole_of g b).ticks)
 
   -- known messages stay known
@@ -109,9 +109,9 @@ module _ (g : GraphTree) (b : Begun) (r : Moment) (long : length r.messages ≡ 
   stay_known port n m there =
       ⊎_elim
       (λ (e : done r.log b.job (length r.log) + 1 ≡ (whole_of g b).ticks).
-      subst (λ (x : Moment). numbered (known_at x port) n ≡ Some m) (sym (after_last g b r e)) (end_known port n m there))
+      subst (λ (x : RunState). numbered (known_at x port) n ≡ Some m) (sym (after_last g b r e)) (end_known port n m there))
       (λ (ne : done r.log b.job (length r.log) + 1 ≡ (whole_of g b).ticks → ⊥).
-      subst (λ (x : Moment). numbered (known_at x port) n ≡ Some m) (sym (after_other g b r ne)) there)
+      subst (λ (x : RunState). numbered (known_at x port) n ≡ Some m) (sym (after_other g b r ne)) there)
       (cases_eq (done r.log b.job (length r.log) + 1) (whole_of g b).ticks)
 
   -- a message that is new is not due yet
@@ -136,13 +136,13 @@ module _ (g : GraphTree) (b : Begun) (r : Moment) (long : length r.messages ≡ 
   known_cases port n m there =
       ⊎_elim
       (λ (e : done r.log b.job (length r.log) + 1 ≡ (whole_of g b).ticks).
-      end_cases port n m (subst (λ (x : Moment). numbered (known_at x port) n ≡ Some m) (after_last g b r e) there))
+      end_cases port n m (subst (λ (x : RunState). numbered (known_at x port) n ≡ Some m) (after_last g b r e) there))
       (λ (ne : done r.log b.job (length r.log) + 1 ≡ (whole_of g b).ticks → ⊥).
-      inl (subst (λ (x : Moment). numbered (known_at x port) n ≡ Some m) (after_other g b r ne) there))
+      inl (subst (λ (x : RunState). numbered (known_at x port) n ≡ Some m) (after_other g b r ne) there))
       (cases_eq (done r.log b.job (length r.log) + 1) (whole_of g b).ticks)
 
   -- a tick of a job that had begun
-  pub ticks : (s : Serial) (plan : List PlanItem) → GoesWith s r (suc (length r.log)) plan → GoesWith s r' (length r'.log) plan
+  pub ticks : (s : Serial) (plan : List PlanItem) → IsPlanOfRun s r (suc (length r.log)) plan → IsPlanOfRun s r' (length r'.log) plan
   ticks s plan goes = record {
     begun = goes.begun;
     known = λ z has. let k = goes.known z has in (k.0, stay_known z.job.task z.job.number k.0 k.1, k.2);
@@ -154,11 +154,11 @@ module _ (g : GraphTree) (b : Begun) (r : Moment) (long : length r.messages ≡ 
   }
 
 -- a job begins: its item has its cost from then on
-pub begins : (g : GraphTree) (trace : List Message) (can : CanRun g trace) (s : Serial) (r : Moment) (is : Interleaves g trace s r) (job : Job) (m : PortMessage) (may : MayBegin g s r job m)
-    (plan : List PlanItem) (due : ℕ) → GoesWith s r due plan → length r.log < due
-    → GoesWith (handle_message g job m s) (with_begun job m s.vars r) due (with_cost job (whole_of g (begun_of job m s)).ticks plan)
+pub begins : (g : GraphTree) (trace : List Message) (can : CanRun g trace) (s : Serial) (r : RunState) (is : Interleaves g trace s r) (job : Job) (m : PortMessage) (may : MayBegin g s r job m)
+    (plan : List PlanItem) (due : ℕ) → IsPlanOfRun s r due plan → length r.log < due
+    → IsPlanOfRun (handle_message g job m s) (with_begun job m s.vars r) due (with_cost job (whole_of g (active_job job m s)).ticks plan)
 begins g trace can s r is job m may plan due goes now =
-    let b = begun_of job m s in
+    let b = active_job job m s in
     let c = (whole_of g b).ticks in
     let new : Handled = record { item = item_of g b; writes = (whole_of g b).writes } in
     let items : items_of (handle_message g job m s) ≡ items_of s ++ item_of g b ∷ [] = map_push (λ (h : Handled). h.item) s.handled new in
@@ -197,7 +197,7 @@ begins g trace can s r is job m may plan due goes now =
     same_item : (j k : Job) (a d c : ℕ) → j ≡ k → a ≡ d → item_at a j c ≡ item_at d k c
     same_item j k a d c e f = ap (λ (x : Job). item_at a x c) e ∙ ap (λ (x : ℕ). item_at x k c) f
 
-pub idles : (s : Serial) (r : Moment) (plan : List PlanItem) → GoesWith s r (suc (length r.log)) plan → GoesWith s (with_idle r) (length (with_idle r).log) plan
+pub idles : (s : Serial) (r : RunState) (plan : List PlanItem) → IsPlanOfRun s r (suc (length r.log)) plan → IsPlanOfRun s (with_idle r) (length (with_idle r).log) plan
 idles s r plan goes = record {
   begun = goes.begun;
   known = goes.known;
@@ -206,8 +206,8 @@ idles s r plan goes = record {
 }
 
 -- when all is over the plan has the very items of serial handling
-pub only_begun : (g : GraphTree) (trace : List Message) (can : CanRun g trace) (s : Serial) (r : Moment) (is : Interleaves g trace s r) → IsOver g s r
-    → (plan : List PlanItem) (due : ℕ) → GoesWith s r due plan → IsLegal (tasks_of g) plan → (z : PlanItem) → Has plan z → Has (items_of s) z
+pub only_begun : (g : GraphTree) (trace : List Message) (can : CanRun g trace) (s : Serial) (r : RunState) (is : Interleaves g trace s r) → IsOver g s r
+    → (plan : List PlanItem) (due : ℕ) → IsPlanOfRun s r due plan → IsLegal (tasks_of g) plan → (z : PlanItem) → Has plan z → Has (items_of s) z
 only_begun g trace can s r is over plan due goes legal z has =
     let k = goes.known z has in
     let p = known_port g trace can s r is z.job.task z.job.number k.0 k.1 in

@@ -9,14 +9,14 @@ use Rattle.yt_log.proofs.Members.{has_sorted, sorted_has}
 use Rattle.yt_rates.specs.Tables.{tasks_of}
 use Rattle.yt_serial.specs.SerialHandling.{Serial, items_of, plan_of, plan_of_log}
 use Rattle.yt_serial.proofs.Lemmas.{runs_are_judged}
-use Rattle.yt_interleave.specs.Laws.{IsSerialRun, EndsArePromised}
+use Rattle.yt_interleave.specs.Laws.{HasHandledAll, EndsArePromised}
 use Rattle.yt_interleave.proofs.Over.{ends_are_serial}
 use Rattle.yt_interleave.proofs.Plans.{only_begun, rule_same}
 
 pub ends_are_promised : EndsArePromised
 ends_are_promised g trace able s r is over plan due goes by lines show =
     let tasks = tasks_of g in
-    let told : IsSerialRun g trace s r = ends_are_serial g trace able.can s r is over in
+    let told : HasHandledAll g trace s r = ends_are_serial g trace able.can s r is over in
     let whole = plan_of_log g trace r.log in
     let plan_is : whole ≡ plan_of s = ap (λ (o : Option Serial). option_map_or plan_of o []) told.along in
     let into : (z : PlanItem) → Has plan z → Has whole z = λ z has.

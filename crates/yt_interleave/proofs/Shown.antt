@@ -19,10 +19,10 @@ use Rattle.yt_serial.specs.SerialHandling.{Serial, brought, shown, all_shown, st
 use Rattle.yt_serial.specs.Told.{line_before}
 use Rattle.yt_log.proofs.Members.{has_append}
 use Rattle.yt_serial.proofs.Lemmas.{feed_cases, lines_append, all_before, all_at, all_past, LinesHold, TimesRise, from_not, lines_has, sorted_is}
-use Rattle.yt_interleave.specs.Interleaved.{Begun, Moment, port_at, passes_of, passed_by, put, on_way, added, output_feeds, first_moment, with_begun, with_tick, with_end}
+use Rattle.yt_interleave.specs.Interleaved.{ActiveJob, RunState, port_at, passes_of, passed_by, put, to_come, added, output_feeds, first_state, with_begun, with_tick, with_end}
 use Rattle.yt_serial.specs.Lines.{lines_of, AreInLineOrder}
 use Rattle.yt_interleave.specs.Lines.{messages_to, KnowsLines, come_before, come_at, HasShown}
-use Rattle.yt_interleave.proofs.Pieces.{added_twice, added_none, added_at, added-length, on_way_begun, on_way_ended}
+use Rattle.yt_interleave.proofs.Pieces.{added_twice, added_none, added_at, added-length, to_come_begun, to_come_ended}
 use Rattle.yt_interleave.proofs.Timing.{passes_late}
 
 shown-append : (n : ℕ) (xs ys : List PortMessage) → shown n (xs ++ ys) ≡ shown n xs ++ shown n ys
@@ -61,13 +61,13 @@ shown_added g task passes ms long (suc k) =
         (sym (ap (λ (i : ℕ). lines_of i (all_shown task passes 1 g.outputs)) (sym one) ∙ all_at task passes 1 k g.outputs o there ∙ ap (λ (i : ℕ). shown i (brought task passes f)) one))
 
 -- a job begins
-pub knows_begun : (g : GraphTree) (s : Serial) (r : Moment) (job : Job) (m : PortMessage) → r.active job.task ≡ None → KnowsLines g s r → KnowsLines g (handle_message g job m s) (with_begun job m s.vars r)
+pub knows_begun : (g : GraphTree) (s : Serial) (r : RunState) (job : Job) (m : PortMessage) → r.active job.task ≡ None → KnowsLines g s r → KnowsLines g (handle_message g job m s) (with_begun job m s.vars r)
 knows_begun g s r job m idle knows =
-    let b : Begun = record { job = job; message = m; vars = s.vars } in
+    let b : ActiveJob = record { job = job; message = m; vars = s.vars } in
     let passes = passes_of g b in
     let feeds = length-map g.outputs (λ (o : Output). Out o.port o.out) in
-    let before = added (on_way g r.active) (output_feeds g) r.outputs in
-    let long : length before ≡ length g.outputs = added-length (on_way g r.active) (output_feeds g) r.outputs (knows.count ∙ sym feeds) ∙ feeds in
+    let before = added (to_come g r.active) (output_feeds g) r.outputs in
+    let long : length before ≡ length g.outputs = added-length (to_come g r.active) (output_feeds g) r.outputs (knows.count ∙ sym feeds) ∙ feeds in
     record {
       count = knows.count;
       lines = λ n.
@@ -75,11 +75,11 @@ knows_begun g s r job m idle knows =
           ∙ ap (λ (ls : List OutLine). ls ++ lines_of n (all_shown job.task passes 1 g.outputs)) (knows.lines n)
           ∙ sym (shown_added g job.task passes before long n)
           ∙ ap (λ (xs : List (List PortMessage)). shown n (messages_to xs n))
-          (added_twice (on_way g r.active) (brought job.task passes) (on_way g (put job.task (Some b) r.active)) (on_way_begun g r.active job.task b idle) (output_feeds g) r.outputs);
+          (added_twice (to_come g r.active) (brought job.task passes) (to_come g (put job.task (Some b) r.active)) (to_come_begun g r.active job.task b idle) (output_feeds g) r.outputs);
     }
 
 -- a job has ended
-pub knows_ended : (g : GraphTree) (s : Serial) (r : Moment) (b : Begun) → r.active b.job.task ≡ Some b → KnowsLines g s r → KnowsLines g s (with_end g b r)
+pub knows_ended : (g : GraphTree) (s : Serial) (r : RunState) (b : ActiveJob) → r.active b.job.task ≡ Some b → KnowsLines g s r → KnowsLines g s (with_end g b r)
 knows_ended g s r b at_task knows =
     let passes = passes_of g b in
     let feeds = length-map g.outputs (λ (o : Output). Out o.port o.out) in
@@ -88,17 +88,17 @@ knows_ended g s r b at_task knows =
       lines = λ n.
           knows.lines n
           ∙ ap (λ (xs : List (List PortMessage)). shown n (messages_to xs n))
-          (sym (added_twice (brought b.job.task passes) (on_way g (put b.job.task None r.active)) (on_way g r.active) (on_way_ended g r.active b.job.task b at_task) (output_feeds g) r.outputs));
+          (sym (added_twice (brought b.job.task passes) (to_come g (put b.job.task None r.active)) (to_come g r.active) (to_come_ended g r.active b.job.task b at_task) (output_feeds g) r.outputs));
     }
 
-pub knows_tick : (g : GraphTree) (s : Serial) (r : Moment) (b : Begun) → KnowsLines g s r → KnowsLines g s (with_tick g b r)
+pub knows_tick : (g : GraphTree) (s : Serial) (r : RunState) (b : ActiveJob) → KnowsLines g s r → KnowsLines g s (with_tick g b r)
 knows_tick g s r b knows = record { count = knows.count; lines = knows.lines }
 
-on_way_none : (g : GraphTree) (active : ℕ → Option Begun) → ((port : ℕ) → active port ≡ None) → (f : Feed) → on_way g active f ≡ []
-on_way_none g active none f =
+to_come_none : (g : GraphTree) (active : ℕ → Option ActiveJob) → ((port : ℕ) → active port ≡ None) → (f : Feed) → to_come g active f ≡ []
+to_come_none g active none f =
     ⊎_elim
-    (λ (i : (input : ℕ) × (f ≡ Input input)). ap (on_way g active) i.1)
-    (λ (o : (source out : ℕ) × (f ≡ Out source out)). ap (on_way g active) o.2 ∙ ap (λ (b : Option Begun). passed_by g b o.1) (none o.0))
+    (λ (i : (input : ℕ) × (f ≡ Input input)). ap (to_come g active) i.1)
+    (λ (o : (source out : ℕ) × (f ≡ Out source out)). ap (to_come g active) o.2 ∙ ap (λ (b : Option ActiveJob). passed_by g b o.1) (none o.0))
     (feed_cases f)
 
 empties : {X : Type 0} (outputs : List X) (k : ℕ) → unwrap_or (slice_get (map (λ (o : X). let none : List PortMessage = [] in none) outputs) k) [] ≡ []
@@ -106,18 +106,18 @@ empties [] k = refl
 empties (o ∷ outputs) zero = refl
 empties (o ∷ outputs) (suc k) = empties outputs k
 
-pub knows_first : (g : GraphTree) (trace : List Message) → KnowsLines g (start g trace) (first_moment g trace)
+pub knows_first : (g : GraphTree) (trace : List Message) → KnowsLines g (start g trace) (first_state g trace)
 knows_first g trace =
     let feeds = length-map g.outputs (λ (o : Output). Out o.port o.out) in
-    let count : length (first_moment g trace).outputs ≡ length g.outputs = length-map g.outputs (λ (o : Output). []) in
+    let count : length (first_state g trace).outputs ≡ length g.outputs = length-map g.outputs (λ (o : Output). []) in
     record {
       count = count;
       lines = λ n.
-          sym (ap (λ (xs : List (List PortMessage)). shown n (messages_to xs n)) (added_none (on_way g (λ port. None)) (on_way_none g (λ port. None) (λ port. refl)) (output_feeds g) (first_moment g trace).outputs (count ∙ sym feeds))
+          sym (ap (λ (xs : List (List PortMessage)). shown n (messages_to xs n)) (added_none (to_come g (λ port. None)) (to_come_none g (λ port. None) (λ port. refl)) (output_feeds g) (first_state g trace).outputs (count ∙ sym feeds))
           ∙ ap (shown n) (none_at n));
     }
   where
-    none_at : (n : ℕ) → messages_to (first_moment g trace).outputs n ≡ []
+    none_at : (n : ℕ) → messages_to (first_state g trace).outputs n ≡ []
     none_at zero = refl
     none_at (suc k) = empties g.outputs k
 
@@ -192,7 +192,7 @@ rise_front (x ∷ xs) ys rise = ((λ z h. rise.0 z (in_front xs ys z h)), rise_f
     in_front (u ∷ us) vs z h = ⊎_elim (λ (e : z ≡ u). inl e) (λ (k : Has us z). inr (in_front us vs z k)) h
 
 -- the known messages of an output rise
-pub known_rise : (g : GraphTree) (s : Serial) (r : Moment) → KnowsLines g s r → LinesHold g s → (n : ℕ) → TimesRise (shown n (messages_to r.outputs n))
+pub known_rise : (g : GraphTree) (s : Serial) (r : RunState) → KnowsLines g s r → LinesHold g s → (n : ℕ) → TimesRise (shown n (messages_to r.outputs n))
 known_rise g s r knows hold zero = tt
 known_rise g s r knows hold (suc k) =
     ⊎_elim
@@ -201,10 +201,10 @@ known_rise g s r knows hold (suc k) =
     let there = slice_get-get_or g.outputs k no_output lt in
     let feeds = length-map g.outputs (λ (o : Output). Out o.port o.out) in
     let feed : slice_get (output_feeds g) k ≡ Some (Out o.port o.out) = slice_get-map (λ (o : Output). Out o.port o.out) g.outputs k ∙ ap (option_map (λ (o : Output). Out o.port o.out)) there in
-    let whole : lines_of (suc k) s.lines ≡ shown (suc k) (messages_to r.outputs (suc k)) ++ shown (suc k) (on_way g r.active (Out o.port o.out)) =
-    knows.lines (suc k) ∙ ap (shown (suc k)) (added_at (on_way g r.active) (output_feeds g) r.outputs k (Out o.port o.out) (knows.count ∙ sym feeds) feed)
-    ∙ shown-append (suc k) (messages_to r.outputs (suc k)) (on_way g r.active (Out o.port o.out)) in
-    rise_front (shown (suc k) (messages_to r.outputs (suc k))) (shown (suc k) (on_way g r.active (Out o.port o.out))) (subst TimesRise whole (hold.rise (suc k))))
+    let whole : lines_of (suc k) s.lines ≡ shown (suc k) (messages_to r.outputs (suc k)) ++ shown (suc k) (to_come g r.active (Out o.port o.out)) =
+    knows.lines (suc k) ∙ ap (shown (suc k)) (added_at (to_come g r.active) (output_feeds g) r.outputs k (Out o.port o.out) (knows.count ∙ sym feeds) feed)
+    ∙ shown-append (suc k) (messages_to r.outputs (suc k)) (to_come g r.active (Out o.port o.out)) in
+    rise_front (shown (suc k) (messages_to r.outputs (suc k))) (shown (suc k) (to_come g r.active (Out o.port o.out))) (subst TimesRise whole (hold.rise (suc k))))
     (λ (ge : length g.outputs ≤ k).
     let count = knows.count in
     let none : messages_to r.outputs (suc k) ≡ [] = ap (λ (o : Option (List PortMessage)). unwrap_or o []) (slice_get_past r.outputs k (omega arith)) in
@@ -233,7 +233,7 @@ has_before n t (m ∷ ms) l h =
     (cases_lt m.time t)
 
 -- what comes at a tick is shown
-pub shows : (g : GraphTree) (s : Serial) (r : Moment) → KnowsLines g s r → LinesHold g s → (t : ℕ) (lines new : List OutLine) → HasShown r t lines
+pub shows : (g : GraphTree) (s : Serial) (r : RunState) → KnowsLines g s r → LinesHold g s → (t : ℕ) (lines new : List OutLine) → HasShown r t lines
     → AreInLineOrder new → ((l : OutLine) → Has new l → l.time ≡ t) → ((n : ℕ) → lines_of n new ≡ shown n (come_at t (messages_to r.outputs n)))
     → HasShown r (suc t) (lines ++ new)
 shows g s r knows hold t lines new has order times each = record {
@@ -250,7 +250,7 @@ shows g s r knows hold t lines new has order times each = record {
 }
 
 -- what an ended job passes on comes later
-pub still_shown : (g : GraphTree) (r : Moment) → length r.outputs ≡ length g.outputs → (b : Begun) (t : ℕ) (lines : List OutLine) → t ≤ b.message.time + period_of g (port_at g b.job.task) → HasShown r t lines → HasShown (with_end g b r) t lines
+pub still_shown : (g : GraphTree) (r : RunState) → length r.outputs ≡ length g.outputs → (b : ActiveJob) (t : ℕ) (lines : List OutLine) → t ≤ b.message.time + period_of g (port_at g b.job.task) → HasShown r t lines → HasShown (with_end g b r) t lines
 still_shown g r count b t lines deadline has = record { order = has.order; each = λ n. has.each n ∙ ap (shown n) (sym (same n)) }
   where
     no_output : Output
@@ -278,11 +278,11 @@ still_shown g r count b t lines deadline has = record { order = has.order; each 
         (cases_lt k (length g.outputs))
 
 -- at the end the lines that were shown are those of serial handling, in order
-pub all_are_shown : (g : GraphTree) (s : Serial) (r : Moment) → KnowsLines g s r → LinesHold g s → ((port : ℕ) → r.active port ≡ None) → (t : ℕ) (lines : List OutLine) → HasShown r t lines
+pub all_are_shown : (g : GraphTree) (s : Serial) (r : RunState) → KnowsLines g s r → LinesHold g s → ((port : ℕ) → r.active port ≡ None) → (t : ℕ) (lines : List OutLine) → HasShown r t lines
     → ((n k : ℕ) (x : PortMessage) → slice_get (messages_to r.outputs n) k ≡ Some x → x.time < t) → lines ≡ sort_by line_before s.lines
 all_are_shown g s r knows hold none t lines has early =
     let feeds = length-map g.outputs (λ (o : Output). Out o.port o.out) in
-    let same : added (on_way g r.active) (output_feeds g) r.outputs ≡ r.outputs = added_none (on_way g r.active) (on_way_none g r.active none) (output_feeds g) r.outputs (knows.count ∙ sym feeds) in
+    let same : added (to_come g r.active) (output_feeds g) r.outputs ≡ r.outputs = added_none (to_come g r.active) (to_come_none g r.active none) (output_feeds g) r.outputs (knows.count ∙ sym feeds) in
     sorted_is lines s.lines has.order hold.rise
     (λ n.
     has.each n ∙ ap (shown n) (before_all t (messages_to r.outputs n) (early n))

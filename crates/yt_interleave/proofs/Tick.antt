@@ -17,7 +17,7 @@ use Rattle.yt_serial.specs.declared.trace.Message.{Message}
 use Rattle.yt_serial.specs.SerialHandling.{Serial, items_of, start}
 use Rattle.yt_serial.specs.Traces.{KeepsPeriods}
 use Rattle.yt_serial.specs.Variables.{after_writes, writes_at, writes_below}
-use Rattle.yt_interleave.specs.Interleaved.{Begun, Moment, port_at, Uses, value_at, whole_of, item_of, with_tick, with_idle, IsUnderWay, IsInUse, IsEndedOrActive, BeginInTurn, StandsFor}
+use Rattle.yt_interleave.specs.Interleaved.{ActiveJob, RunState, port_at, Uses, value_at, whole_of, item_of, with_tick, with_idle, IsActiveJob, IsInUse, IsEndedOrActive, BeginInTurn, MatchesSerial}
 use Rattle.yt_serial.specs.Beginnings.{nth_job}
 use Rattle.yt_interleave.proofs.Begin.{not_both}
 use Rattle.yt_interleave.proofs.HandlerWrites.{IsWritten, handling_written, written_more, after_writes-append, after_writes-length, kept_after, kept_or_written, same_after, has_at, before_length}
@@ -64,8 +64,8 @@ module _ (items : List PlanItem) (log : Ticks) (o : Option Job) where
       (tick_cases log o j t is)
 
 module _ (g : GraphTree) (well : IsWellFormed g) (rates : All (IsWithinRates g) g.ports) (trace : List Message) (keeps : KeepsPeriods g trace)
-    (order : List Job) (s : Serial) (r : Moment) (stands : StandsFor g trace order s r) where
-  module _ (port : ℕ) (b : Begun) (at_port : r.active port ≡ Some b) (left : done r.log b.job (length r.log) < (whole_of g b).ticks) where
+    (order : List Job) (s : Serial) (r : RunState) (stands : MatchesSerial g trace order s r) where
+  module _ (port : ℕ) (b : ActiveJob) (at_port : r.active port ≡ Some b) (left : done r.log b.job (length r.log) < (whole_of g b).ticks) where
     abbrev n : ℕ
     n = done r.log b.job (length r.log)
 
@@ -75,10 +75,10 @@ module _ (g : GraphTree) (well : IsWellFormed g) (rates : All (IsWithinRates g) 
     abbrev ws : List Write
     ws = writes_at n h.writes
 
-    abbrev r' : Moment
+    abbrev r' : RunState
     r' = with_tick g b r
 
-    u : IsUnderWay g s r.log r.vars port b
+    u : IsActiveJob g s r.log r.vars port b
     u = stands.under_way port b at_port
 
     written : IsWritten (port_at g b.job.task) b.vars h
@@ -102,7 +102,7 @@ module _ (g : GraphTree) (well : IsWellFormed g) (rates : All (IsWithinRates g) 
         same_after ws r.vars (written_before n h.writes b.vars) v (sym (before_length n h.writes b.vars ∙ u.count)) (u.now v uses)
         ∙ ap (λ (xs : List ℤ). value_at xs v) (sym (ap (λ (k : ℕ). written_before k h.writes b.vars) this ∙ written_more n 0 h.ticks h.writes b.vars written.within))
 
-    under_way_this : IsUnderWay g s r'.log r'.vars port b
+    under_way_this : IsActiveJob g s r'.log r'.vars port b
     under_way_this = record {
       task = u.task;
       number = u.number;
@@ -116,7 +116,7 @@ module _ (g : GraphTree) (well : IsWellFormed g) (rates : All (IsWithinRates g) 
       later = u.later;
     }
 
-    under_way_other : (p : ℕ) (c : Begun) → (port ≡ p → ⊥) → r.active p ≡ Some c → IsUnderWay g s r'.log r'.vars p c
+    under_way_other : (p : ℕ) (c : ActiveJob) → (port ≡ p → ⊥) → r.active p ≡ Some c → IsActiveJob g s r'.log r'.vars p c
     under_way_other p c ne at_p =
         let k = stands.under_way p c at_p in
         let same : done r'.log c.job (length r'.log) ≡ done r.log c.job (length r.log) = other c.job (λ e. ne (sym u.task ∙ ap (λ (j : Job). j.task) e ∙ k.task)) in
@@ -135,12 +135,12 @@ module _ (g : GraphTree) (well : IsWellFormed g) (rates : All (IsWithinRates g) 
           later = k.later;
         }
 
-    under_way_after : (p : ℕ) (c : Begun) → r.active p ≡ Some c → IsUnderWay g s r'.log r'.vars p c
+    under_way_after : (p : ℕ) (c : ActiveJob) → r.active p ≡ Some c → IsActiveJob g s r'.log r'.vars p c
     under_way_after p c at_p =
         ⊎_elim
         (λ (e : port ≡ p).
         let same : b ≡ c = same_Some b c (sym at_port ∙ ap r.active e ∙ at_p) in
-        subst (λ (q : ℕ). IsUnderWay g s r'.log r'.vars q c) e (subst (IsUnderWay g s r'.log r'.vars port) same under_way_this))
+        subst (λ (q : ℕ). IsActiveJob g s r'.log r'.vars q c) e (subst (IsActiveJob g s r'.log r'.vars port) same under_way_this))
         (λ (ne : port ≡ p → ⊥). under_way_other p c ne at_p)
         (cases_eq port p)
 
@@ -165,7 +165,7 @@ module _ (g : GraphTree) (well : IsWellFormed g) (rates : All (IsWithinRates g) 
     ended_after : (z : PlanItem) → Has (items_of s) z → IsEndedOrActive g r'.log r.active z
     ended_after z has =
         ⊎_elim
-        (λ (a : (c : Begun) × (r.active z.job.task ≡ Some c) × (z ≡ item_of g c)). inl a)
+        (λ (a : (c : ActiveJob) × (r.active z.job.task ≡ Some c) × (z ≡ item_of g c)). inl a)
         (λ (e : done r.log z.job (length r.log) ≡ z.cost).
         ⊎_elim
         (λ (q : b.job ≡ z.job).
@@ -187,10 +187,10 @@ module _ (g : GraphTree) (well : IsWellFormed g) (rates : All (IsWithinRates g) 
         let z = stands.all port k some (omega arith) in
         let at : z.0.job ≡ nth_job j.task k = z.2 ∙ ap (λ (p : ℕ). nth_job p k) task in
         ⊎_elim
-        (λ (a : (c : Begun) × (r.active z.0.job.task ≡ Some c) × (z.0 ≡ item_of g c)).
+        (λ (a : (c : ActiveJob) × (r.active z.0.job.task ≡ Some c) × (z.0 ≡ item_of g c)).
         let here : r.active port ≡ r.active z.0.job.task = ap r.active (sym (ap (λ (x : Job). x.task) z.2)) in
         let c : b ≡ a.0 = same_Some b a.0 (sym at_port ∙ here ∙ a.1) in
-        let n : b.job.number ≡ k = ap (λ (x : Begun). x.job.number) c ∙ sym (ap (λ (x : PlanItem). x.job.number) a.2) ∙ ap (λ (x : Job). x.number) z.2 in
+        let n : b.job.number ≡ k = ap (λ (x : ActiveJob). x.job.number) c ∙ sym (ap (λ (x : PlanItem). x.job.number) a.2) ∙ ap (λ (x : Job). x.number) z.2 in
         absurd (omega arith))
         (λ (e : done r.log z.0.job (length r.log) ≡ z.0.cost).
         let move : done r.log z.0.job (length r.log) ≡ done r.log (nth_job j.task k) (length r.log) = ap (λ (x : Job). done r.log x (length r.log)) at in
@@ -204,7 +204,7 @@ module _ (g : GraphTree) (well : IsWellFormed g) (rates : All (IsWithinRates g) 
         waits : IsWaiting r.log (length r.log) (item_of g b)
         waits = record { arrived = u.arrived; unfinished = left }
 
-    pub ticked : StandsFor g trace order s r'
+    pub ticked : MatchesSerial g trace order s r'
     ticked = record {
       along = stands.along;
       under_way = under_way_after;
@@ -232,7 +232,7 @@ module _ (g : GraphTree) (well : IsWellFormed g) (rates : All (IsWithinRates g) 
   still : (j : Job) → done (with_idle r).log j (length (with_idle r).log) ≡ done r.log j (length r.log)
   still j = done_other r.log None j (λ e. none-some j e)
 
-  under_way_still : (p : ℕ) (c : Begun) → r.active p ≡ Some c → IsUnderWay g s (with_idle r).log r.vars p c
+  under_way_still : (p : ℕ) (c : ActiveJob) → r.active p ≡ Some c → IsActiveJob g s (with_idle r).log r.vars p c
   under_way_still p c at_p =
       let k = stands.under_way p c at_p in
       let same = still c.job in
@@ -252,11 +252,11 @@ module _ (g : GraphTree) (well : IsWellFormed g) (rates : All (IsWithinRates g) 
   ended_still : (z : PlanItem) → Has (items_of s) z → IsEndedOrActive g (with_idle r).log r.active z
   ended_still z has =
       ⊎_elim
-      (λ (a : (c : Begun) × (r.active z.job.task ≡ Some c) × (z ≡ item_of g c)). inl a)
+      (λ (a : (c : ActiveJob) × (r.active z.job.task ≡ Some c) × (z ≡ item_of g c)). inl a)
       (λ (e : done r.log z.job (length r.log) ≡ z.cost). inr (still z.job ∙ e))
       (stands.ended z has)
 
-  pub idled : StandsFor g trace order s (with_idle r)
+  pub idled : MatchesSerial g trace order s (with_idle r)
   idled = record {
     along = stands.along;
     under_way = under_way_still;

@@ -23,10 +23,10 @@ use Rattle.yt_serial.specs.Beginnings.{order_of, nth_job}
 use Rattle.yt_serial.specs.PortMessages.{PortMessage, numbered}
 use Rattle.yt_serial.specs.SerialHandling.{Serial, messages_at, items_of, handled_of, brought}
 use Rattle.yt_serial.proofs.Lemmas.{Holds, port_there, BringsOf, brings, spaced_within, numbered_apart, port_task, sent_late}
-use Rattle.yt_interleave.specs.Interleaved.{Begun, Moment, port_at, known_at, whole_of, item_of, passes_of, StandsFor}
+use Rattle.yt_interleave.specs.Interleaved.{ActiveJob, RunState, port_at, known_at, whole_of, item_of, passes_of, MatchesSerial}
 use Rattle.yt_serial.specs.Laws.{CanRun}
 use Rattle.yt_interleave.specs.Moves.{MayBegin, Interleaves}
-use Rattle.yt_interleave.specs.Timing.{HasEnded, IsOnTime, IsPending, IsResourceFree, GoesWith}
+use Rattle.yt_interleave.specs.Timing.{HasEnded, IsOnTime, WaitsToBegin, IsResourceFree, IsPlanOfRun}
 use Rattle.yt_interleave.proofs.Begin as begin
 
 pub period_some : (g : GraphTree) (port : ℕ) (q : PortTree) → All (IsWithinRates g) g.ports → numbered g.ports port ≡ Some q → 1 ≤ period_of g q
@@ -48,8 +48,8 @@ none_or_some : {X : Type 0} (o : Option X) → (o ≡ None) ⊎ ((x : X) × (o �
 none_or_some None = inl refl
 none_or_some (Some x) = inr (x, refl)
 
-module _ (g : GraphTree) (trace : List Message) (can : CanRun g trace) (s : Serial) (r : Moment) (is : Interleaves g trace s r) where
-  abbrev stands : StandsFor g trace (order_of r.log) s r
+module _ (g : GraphTree) (trace : List Message) (can : CanRun g trace) (s : Serial) (r : RunState) (is : Interleaves g trace s r) where
+  abbrev stands : MatchesSerial g trace (order_of r.log) s r
   stands = is.stands
 
   pub serial : Holds g s
@@ -70,7 +70,7 @@ module _ (g : GraphTree) (trace : List Message) (can : CanRun g trace) (s : Seri
   pub has_tick : (z : PlanItem) → Has (items_of s) z → 1 ≤ z.cost → 0 < done r.log z.job (length r.log)
   has_tick z has cost =
       ⊎_elim
-      (λ (a : (b : Begun) × (r.active z.job.task ≡ Some b) × (z ≡ item_of g b)).
+      (λ (a : (b : ActiveJob) × (r.active z.job.task ≡ Some b) × (z ≡ item_of g b)).
       subst (λ (j : Job). 0 < done r.log j (length r.log)) (sym (ap (λ (x : PlanItem). x.job) a.2)) (is.begun z.job.task a.0 a.1))
       (λ (e : done r.log z.job (length r.log) ≡ z.cost). omega arith)
       (stands.ended z has)
@@ -107,11 +107,11 @@ module _ (g : GraphTree) (trace : List Message) (can : CanRun g trace) (s : Seri
         (omega arith, none_at (r.active port) refl (λ b at. ended.not_active b at (let u = (stands.under_way port b at).number in omega arith))))
         (cases_eq k 0)
       where
-        none_at : (o : Option Begun) → r.active port ≡ o → ((b : Begun) → r.active port ≡ Some b → ⊥) → r.active port ≡ None
+        none_at : (o : Option ActiveJob) → r.active port ≡ o → ((b : ActiveJob) → r.active port ≡ Some b → ⊥) → r.active port ≡ None
         none_at None at never = at
         none_at (Some b) at never = absurd (never b at)
 
-    pub may_begin : (job : Job) (m : PortMessage) → IsPending r job m → IsResourceFree g r job.task → MayBegin g s r job m
+    pub may_begin : (job : Job) (m : PortMessage) → WaitsToBegin r job m → IsResourceFree g r job.task → MayBegin g s r job m
     may_begin job m pending free =
         let turn = in_turn job.task job.number m pending.there pending.arrived pending.fresh in
         record { number = turn.0; there = pending.there; arrived = pending.arrived; idle = turn.1; free = free }
@@ -153,7 +153,7 @@ module _ (g : GraphTree) (trace : List Message) (can : CanRun g trace) (s : Seri
   port_free on_time port n m there now = in_turn on_time port n m there (omega arith) (fresh_before port n m there (omega arith))
 
   -- the deadlines of a legal plan that goes with the run are kept
-  pub on_time_from : (plan : List PlanItem) (coming : ℕ) → GoesWith s r coming plan → length r.log ≤ coming → IsLegal (tasks_of g) plan → KeepsDeadlines (tasks_of g) plan r.log (length r.log) → IsOnTime g s r
+  pub on_time_from : (plan : List PlanItem) (coming : ℕ) → IsPlanOfRun s r coming plan → length r.log ≤ coming → IsLegal (tasks_of g) plan → KeepsDeadlines (tasks_of g) plan r.log (length r.log) → IsOnTime g s r
   on_time_from plan coming goes low legal keeps port n p m is_port there due =
       let some = period_some g port p can.rates is_port in
       let z = goes.all port n m there (omega arith) in
@@ -192,6 +192,6 @@ module _ (g : GraphTree) (trace : List Message) (can : CanRun g trace) (s : Seri
       same_job_parts j port k e f = ap (λ (n : ℕ). nth_job n j.number) e ∙ ap (nth_job port) f
 
 -- what a job passes on comes no earlier than its deadline
-pub passes_late : (g : GraphTree) (b : Begun) (f : Feed) (k : ℕ) (x : PortMessage)
+pub passes_late : (g : GraphTree) (b : ActiveJob) (f : Feed) (k : ℕ) (x : PortMessage)
     → slice_get (brought b.job.task (passes_of g b) f) k ≡ Some x → b.message.time + period_of g (port_at g b.job.task) ≤ x.time
 passes_late g b f k x there = sent_late g (port_at g b.job.task) b.job b.message.time (whole_of g b).sends f k x there

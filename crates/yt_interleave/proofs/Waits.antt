@@ -24,7 +24,7 @@ use Rattle.yt_serial.specs.declared.trace.Message.{Message}
 use Rattle.yt_serial.specs.Beginnings.{order_of}
 use Rattle.yt_serial.specs.PortMessages.{PortMessage, numbered, messages_of, spaced, passed}
 use Rattle.yt_serial.specs.SerialHandling.{Serial, messages_at, brought, from_outside, shown, start, port_of, serial_step, serial_run}
-use Rattle.yt_interleave.specs.Interleaved.{Begun, Moment, port_at, known_at, passes_of, on_way, output_feeds, with_end}
+use Rattle.yt_interleave.specs.Interleaved.{ActiveJob, RunState, port_at, known_at, passes_of, to_come, output_feeds, with_end}
 use Rattle.yt_serial.specs.Laws.{CanRun}
 use Rattle.yt_interleave.specs.Lines.{messages_to, come_at}
 use Rattle.yt_interleave.specs.Moves.{Interleaves}
@@ -134,14 +134,14 @@ one_apart t period (m ∷ ms) some apart =
     later (x ∷ xs) late = come_no t x xs (λ e. let lt = late 0 x refl in absurd (omega arith)) ∙ later xs (λ k y h. late (suc k) y h)
 
 module _ (g : GraphTree) (trace : List Message) (can : CanRun g trace) where
-  module _ (s : Serial) (r : Moment) (is : Interleaves g trace s r) where
+  module _ (s : Serial) (r : RunState) (is : Interleaves g trace s r) where
     input_at : (port : ℕ) (p : PortTree) (i : ℕ) → numbered g.ports port ≡ Some p → p.feed ≡ Input i → known_at r port ≡ messages_of i trace
     input_at zero p i there feed = absurd (none-some p there)
     input_at (suc k) p i there feed =
         let known : messages_at s (suc k) ≡ known_at r (suc k) =
         ap (λ (ms : List (List PortMessage)). unwrap_or (numbered ms (suc k)) []) is.stands.messages
-        ∙ placed_at (on_way g r.active) g.ports r.messages k p is.stands.long there
-        ∙ ap (λ (f : Feed). known_at r (suc k) ++ on_way g r.active f) feed ∙ append-nil (known_at r (suc k)) in
+        ∙ placed_at (to_come g r.active) g.ports r.messages k p is.stands.long there
+        ∙ ap (λ (f : Feed). known_at r (suc k) ++ to_come g r.active f) feed ∙ append-nil (known_at r (suc k)) in
         let first : messages_at (start g trace) (suc k) ≡ messages_of i trace =
         ap (λ (o : Option (List PortMessage)). unwrap_or o []) (slice_get-map (λ (p : PortTree). from_outside trace p.feed) g.ports k ∙ ap (option_map (λ (p : PortTree). from_outside trace p.feed)) there)
         ∙ ap (from_outside trace) feed in
@@ -149,7 +149,7 @@ module _ (g : GraphTree) (trace : List Message) (can : CanRun g trace) where
         ∙ inputs_stay g trace can (order_of r.log) (start g trace) s (serial_holds g can.well_formed can.rates trace can.keeps [] (start g trace) refl) is.stands.along k p i there feed
         ∙ first
 
-    at_port : (b : Begun) (due : ℕ) → due ≤ b.message.time + period_of g (port_at g b.job.task) → (port : ℕ) (p : PortTree) → numbered g.ports port ≡ Some p
+    at_port : (b : ActiveJob) (due : ℕ) → due ≤ b.message.time + period_of g (port_at g b.job.task) → (port : ℕ) (p : PortTree) → numbered g.ports port ≡ Some p
         → wait_from due (known_at (with_end g b r) port) ≡ wait_from due (known_at r port) ++ brought b.job.task (passes_of g b) p.feed
     at_port b due le zero p there = absurd (none-some p there)
     at_port b due le (suc k) p there =
@@ -158,7 +158,7 @@ module _ (g : GraphTree) (trace : List Message) (can : CanRun g trace) where
         ∙ wait_append due (known_at r (suc k)) new
         ∙ ap (λ (ms : List PortMessage). wait_from due (known_at r (suc k)) ++ ms) (wait_all due new (λ i x h. let late = passes_late g b p.feed i x h in omega arith))
 
-    at_output : (b : Begun) (due : ℕ) → due ≤ b.message.time + period_of g (port_at g b.job.task) → (n : ℕ) (o : Output) → numbered g.outputs n ≡ Some o
+    at_output : (b : ActiveJob) (due : ℕ) → due ≤ b.message.time + period_of g (port_at g b.job.task) → (n : ℕ) (o : Output) → numbered g.outputs n ≡ Some o
         → wait_from due (messages_to (with_end g b r).outputs n) ≡ wait_from due (messages_to r.outputs n) ++ brought b.job.task (passes_of g b) (Out o.port o.out)
     at_output b due le zero o there = absurd (none-some o there)
     at_output b due le (suc k) o there =
@@ -211,7 +211,7 @@ gap_some g rates (suc k) out p there some most =
     let e : get_or g.ports k p ≡ p = get_or_from_slice_get g.ports k p p there in
     (subst (IsWithinRates g) e (rates k p (slice_get_within g.ports k p there))).outs.gap out some most
 
-old_come : (g : GraphTree) (trace : List Message) → CanRun g trace → (s : Serial) (r : Moment) → Interleaves g trace s r
+old_come : (g : GraphTree) (trace : List Message) → CanRun g trace → (s : Serial) (r : RunState) → Interleaves g trace s r
     → (port n earlier last j : ℕ) (p : PortTree) (m first : PortMessage) (out : ℕ) → numbered g.ports port ≡ Some p
     → numbered (messages_at s port) n ≡ Some m → numbered (messages_at s port) earlier ≡ Some first → 1 ≤ out → out ≤ length p.outs
     → earlier % every_of p out ≡ 0 → last % every_of p out ≡ 0 → earlier < last → last < n → j < greatest_sends p out

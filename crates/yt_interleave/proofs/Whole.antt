@@ -21,13 +21,13 @@ use Rattle.yt_serial.specs.PortMessages.{PortMessage, numbered}
 use Rattle.yt_serial.specs.SerialHandling.{Serial, shown, no_port, start, handle_message}
 use Rattle.yt_serial.specs.Told.{latest, IsPromisedRun}
 use Rattle.yt_serial.proofs.Lemmas.{port_there, length_push, tick_last, done_before, lines_hold}
-use Rattle.yt_interleave.specs.Interleaved.{Begun, Moment, port_at, group_at, known_at, whole_of, item_of, first_moment, with_begun, with_tick, with_idle}
+use Rattle.yt_interleave.specs.Interleaved.{ActiveJob, RunState, port_at, group_at, known_at, whole_of, item_of, first_state, with_begun, with_tick, with_idle}
 use Rattle.yt_serial.specs.Lines.{lines_of}
 use Rattle.yt_interleave.specs.Lines.{come_before, HasShown, KnowsLines}
-use Rattle.yt_interleave.specs.Moves.{MayBegin, after_tick, begun_of, Interleaves, IsOver}
-use Rattle.yt_serial.specs.Judged.{IsRunnable}
-use Rattle.yt_interleave.specs.Runs.{IsRunning, AreReleased, AreShownNow, AllCome, RunsGoOn, RunsAreOnTime}
-use Rattle.yt_interleave.specs.Timing.{HasEnded, IsOnTime, IsPending, IsResourceFree, GoesWith, IsLegalRun}
+use Rattle.yt_interleave.specs.Moves.{MayBegin, after_tick, active_job, Interleaves, IsOver}
+use Rattle.yt_serial.specs.Judged.{IsSchedulable}
+use Rattle.yt_interleave.specs.Runs.{IsRunning, AreReleased, AreShownNow, AllShown, RunsGoOn, RunsAreOnTime}
+use Rattle.yt_interleave.specs.Timing.{HasEnded, IsOnTime, WaitsToBegin, IsResourceFree, IsPlanOfRun, IsRuleLog}
 use Rattle.yt_interleave.proofs.Executives.{group_is}
 use Rattle.yt_interleave.proofs.Plans as plans
 use Rattle.yt_interleave.proofs.Promised.{ends_are_promised}
@@ -35,25 +35,25 @@ use Rattle.yt_interleave.proofs.Shown.{shows, still_shown, all_are_shown, knows_
 use Rattle.yt_interleave.proofs.Steps.{after_last, after_other, starts_serial, begins_keep_serial, ticks_keep_serial, idling_keeps_serial}
 use Rattle.yt_interleave.proofs.Timing as timing
 
-pub grows : (g : GraphTree) (b : Begun) (r : Moment) → (after_tick g b r).log ≡ r.log ++ Some b.job ∷ []
+pub grows : (g : GraphTree) (b : ActiveJob) (r : RunState) → (after_tick g b r).log ≡ r.log ++ Some b.job ∷ []
 grows g b r =
     ⊎_elim
-    (λ (e : done r.log b.job (length r.log) + 1 ≡ (whole_of g b).ticks). ap (λ (x : Moment). x.log) (after_last g b r e))
-    (λ (ne : done r.log b.job (length r.log) + 1 ≡ (whole_of g b).ticks → ⊥). ap (λ (x : Moment). x.log) (after_other g b r ne))
+    (λ (e : done r.log b.job (length r.log) + 1 ≡ (whole_of g b).ticks). ap (λ (x : RunState). x.log) (after_last g b r e))
+    (λ (ne : done r.log b.job (length r.log) + 1 ≡ (whole_of g b).ticks → ⊥). ap (λ (x : RunState). x.log) (after_other g b r ne))
     (cases_eq (done r.log b.job (length r.log) + 1) (whole_of g b).ticks)
 
 -- what was shown stays shown through a tick
-shown_after : (g : GraphTree) (s : Serial) (r : Moment) (b : Begun) (t : ℕ) (lines : List OutLine) → KnowsLines g s r → t ≤ b.message.time + period_of g (port_at g b.job.task) → HasShown r t lines → HasShown (after_tick g b r) t lines
+shown_after : (g : GraphTree) (s : Serial) (r : RunState) (b : ActiveJob) (t : ℕ) (lines : List OutLine) → KnowsLines g s r → t ≤ b.message.time + period_of g (port_at g b.job.task) → HasShown r t lines → HasShown (after_tick g b r) t lines
 shown_after g s r b t lines knows deadline has =
     let ticked : HasShown (with_tick g b r) t lines = record { order = has.order; each = has.each } in
     ⊎_elim
     (λ (e : done r.log b.job (length r.log) + 1 ≡ (whole_of g b).ticks).
-    subst (λ (x : Moment). HasShown x t lines) (sym (after_last g b r e)) (still_shown g (with_tick g b r) knows.count b t lines deadline ticked))
+    subst (λ (x : RunState). HasShown x t lines) (sym (after_last g b r e)) (still_shown g (with_tick g b r) knows.count b t lines deadline ticked))
     (λ (ne : done r.log b.job (length r.log) + 1 ≡ (whole_of g b).ticks → ⊥).
-    subst (λ (x : Moment). HasShown x t lines) (sym (after_other g b r ne)) ticked)
+    subst (λ (x : RunState). HasShown x t lines) (sym (after_other g b r ne)) ticked)
     (cases_eq (done r.log b.job (length r.log) + 1) (whole_of g b).ticks)
 
-module _ (g : GraphTree) (trace : List Message) (able : IsRunnable g trace) (s : Serial) (r : Moment) where
+module _ (g : GraphTree) (trace : List Message) (able : IsSchedulable g trace) (s : Serial) (r : RunState) where
   pub on_time : (due : ℕ) (plan : List PlanItem) (lines : List OutLine) → IsRunning g trace s r due plan lines → length r.log ≤ due → IsOnTime g s r
   on_time due plan lines is le =
       timing.on_time_from g trace able.can s r is.interleaves plan due is.goes le is.by.legal (able.keeps plan is.by.legal r.log is.by.rule)
@@ -73,7 +73,7 @@ module _ (g : GraphTree) (trace : List Message) (able : IsRunnable g trace) (s :
       subst (λ (q : PortTree). length r.log < m.time + period_of g q) (sym (ap (λ (o : Option PortTree). unwrap_or o no_port) p.1)) h
 
   -- so is that of a job that is under way
-  pub active_before : Interleaves g trace s r → IsOnTime g s r → (port : ℕ) (b : Begun) → r.active port ≡ Some b → length r.log < b.message.time + period_of g (port_at g b.job.task)
+  pub active_before : Interleaves g trace s r → IsOnTime g s r → (port : ℕ) (b : ActiveJob) → r.active port ≡ Some b → length r.log < b.message.time + period_of g (port_at g b.job.task)
   active_before is timely port b at_port =
       let u = is.stands.under_way port b at_port in
       let holds = timing.serial g trace able.can s r is in
@@ -86,9 +86,9 @@ module _ (g : GraphTree) (trace : List Message) (able : IsRunnable g trace) (s :
       (cases_lt (length r.log) (b.message.time + period_of g q.0))
 
 -- the rule gives no tick to a job whose resource another job has that is under way
-resource_free : (g : GraphTree) (trace : List Message) → IsRunnable g trace → (s : Serial) (r : Moment) (due : ℕ) (plan : List PlanItem) (lines : List OutLine)
-    → IsRunning g trace s r due plan lines → (job : Job) (m : PortMessage) → IsPending r job m
-    → (cost : ℕ) → IsLegalRun g (with_cost job cost plan) (r.log ++ Some job ∷ []) → IsResourceFree g r job.task
+resource_free : (g : GraphTree) (trace : List Message) → IsSchedulable g trace → (s : Serial) (r : RunState) (due : ℕ) (plan : List PlanItem) (lines : List OutLine)
+    → IsRunning g trace s r due plan lines → (job : Job) (m : PortMessage) → WaitsToBegin r job m
+    → (cost : ℕ) → IsRuleLog g (with_cost job cost plan) (r.log ++ Some job ∷ []) → IsResourceFree g r job.task
 resource_free g trace able s r due plan lines is job m pending c by port b at_port some same =
     let tasks = tasks_of g in
     let log = r.log ++ Some job ∷ [] in
@@ -126,17 +126,17 @@ runs_are_on_time = record {
 none_before : (n : ℕ) (ms : List PortMessage) → lines_of n [] ≡ shown n (come_before 0 ms)
 none_before n ms = sym (ap (shown n) (before_late 0 ms (λ k x h. omega arith)))
 
-starts : (g : GraphTree) (trace : List Message) → IsRunnable g trace → IsRunning g trace (start g trace) (first_moment g trace) 0 [] []
+starts : (g : GraphTree) (trace : List Message) → IsSchedulable g trace → IsRunning g trace (start g trace) (first_state g trace) 0 [] []
 starts g trace able = record {
   interleaves = starts_serial g trace able.can;
   goes = record { begun = λ z has. absurd has; known = λ z has. absurd has; early = λ z has. absurd has; all = λ port n m there lt. absurd (omega arith) };
   by = record { legal = tt; rule = λ t lt. absurd (omega arith) };
-  shown = record { order = tt; each = λ n. none_before n (unwrap_or (numbered (first_moment g trace).outputs n) []) };
+  shown = record { order = tt; each = λ n. none_before n (unwrap_or (numbered (first_state g trace).outputs n) []) };
 }
 
-places : (g : GraphTree) (trace : List Message) → IsRunnable g trace → (s : Serial) (r : Moment) (plan : List PlanItem) (lines : List OutLine)
+places : (g : GraphTree) (trace : List Message) → IsSchedulable g trace → (s : Serial) (r : RunState) (plan : List PlanItem) (lines : List OutLine)
     → IsRunning g trace s r (length r.log) plan lines → (new : List PlanItem) (more : List OutLine) → AreReleased r new → AreShownNow r more
-    → IsLegalRun g (plan ++ new) r.log → IsRunning g trace s r (suc (length r.log)) (plan ++ new) (lines ++ more)
+    → IsRuleLog g (plan ++ new) r.log → IsRunning g trace s r (suc (length r.log)) (plan ++ new) (lines ++ more)
 places g trace able s r plan lines is new more released show by = record {
   interleaves = is.interleaves;
   goes = plans.releases s r plan new is.goes released.known released.now released.all;
@@ -146,17 +146,17 @@ places g trace able s r plan lines is new more released show by = record {
       shows g s r is.interleaves.lines hold (length r.log) lines more is.shown show.order show.times show.each;
 }
 
-begins : (g : GraphTree) (trace : List Message) → IsRunnable g trace → (s : Serial) (r : Moment) (plan : List PlanItem) (lines : List OutLine)
-    → IsRunning g trace s r (suc (length r.log)) plan lines → (job : Job) (m : PortMessage) → IsPending r job m
-    → IsLegalRun g (with_cost job (whole_of g (begun_of job m s)).ticks plan) (r.log ++ Some job ∷ [])
-    → IsRunning g trace (handle_message g job m s) (after_tick g (begun_of job m s) (with_begun job m s.vars r)) (suc (length r.log))
-    (with_cost job (whole_of g (begun_of job m s)).ticks plan) lines
+begins : (g : GraphTree) (trace : List Message) → IsSchedulable g trace → (s : Serial) (r : RunState) (plan : List PlanItem) (lines : List OutLine)
+    → IsRunning g trace s r (suc (length r.log)) plan lines → (job : Job) (m : PortMessage) → WaitsToBegin r job m
+    → IsRuleLog g (with_cost job (whole_of g (active_job job m s)).ticks plan) (r.log ++ Some job ∷ [])
+    → IsRunning g trace (handle_message g job m s) (after_tick g (active_job job m s) (with_begun job m s.vars r)) (suc (length r.log))
+    (with_cost job (whole_of g (active_job job m s)).ticks plan) lines
 begins g trace able s r plan lines is job m pending by =
-    let free = resource_free g trace able s r (suc (length r.log)) plan lines is job m pending (whole_of g (begun_of job m s)).ticks by in
+    let free = resource_free g trace able s r (suc (length r.log)) plan lines is job m pending (whole_of g (active_job job m s)).ticks by in
     let timely = on_time g trace able s r (suc (length r.log)) plan lines is (omega arith) in
     let may = timing.may_begin g trace able.can s r is.interleaves timely job m pending free in
     let deadline = pending_before g trace able s r is.interleaves timely job m may in
-    let b = begun_of job m s in
+    let b = active_job job m s in
     let r1 = with_begun job m s.vars r in
     let s1 = handle_message g job m s in
     let next = begins_keep_serial g trace able.can s r is.interleaves job m may in
@@ -167,14 +167,14 @@ begins g trace able s r plan lines is job m pending by =
     let knows = knows_begun g s r job m may.idle is.interleaves.lines in
     record {
       interleaves = next;
-      goes = subst (λ (n : ℕ). GoesWith s1 (after_tick g b r1) n (with_cost job (whole_of g b).ticks plan)) long goes2;
-      by = subst (IsLegalRun g (with_cost job (whole_of g b).ticks plan)) (sym log) by;
+      goes = subst (λ (n : ℕ). IsPlanOfRun s1 (after_tick g b r1) n (with_cost job (whole_of g b).ticks plan)) long goes2;
+      by = subst (IsRuleLog g (with_cost job (whole_of g b).ticks plan)) (sym log) by;
       shown = shown_after g s1 r1 b (suc (length r.log)) lines knows deadline (record { order = is.shown.order; each = is.shown.each });
     }
 
-ticks : (g : GraphTree) (trace : List Message) → IsRunnable g trace → (s : Serial) (r : Moment) (plan : List PlanItem) (lines : List OutLine)
-    → IsRunning g trace s r (suc (length r.log)) plan lines → (port : ℕ) (b : Begun) → r.active port ≡ Some b
-    → IsLegalRun g plan (r.log ++ Some b.job ∷ []) → IsRunning g trace s (after_tick g b r) (suc (length r.log)) plan lines
+ticks : (g : GraphTree) (trace : List Message) → IsSchedulable g trace → (s : Serial) (r : RunState) (plan : List PlanItem) (lines : List OutLine)
+    → IsRunning g trace s r (suc (length r.log)) plan lines → (port : ℕ) (b : ActiveJob) → r.active port ≡ Some b
+    → IsRuleLog g plan (r.log ++ Some b.job ∷ []) → IsRunning g trace s (after_tick g b r) (suc (length r.log)) plan lines
 ticks g trace able s r plan lines is port b at_port by =
     let timely = on_time g trace able s r (suc (length r.log)) plan lines is (omega arith) in
     let deadline = active_before g trace able s r is.interleaves timely port b at_port in
@@ -182,23 +182,23 @@ ticks g trace able s r plan lines is port b at_port by =
     let long : length (after_tick g b r).log ≡ suc (length r.log) = ap length log ∙ length_push r.log (Some b.job) in
     record {
       interleaves = ticks_keep_serial g trace able.can s r is.interleaves port b at_port;
-      goes = subst (λ (n : ℕ). GoesWith s (after_tick g b r) n plan) long (plans.ticks g b r is.interleaves.stands.long deadline s plan is.goes);
-      by = subst (IsLegalRun g plan) (sym log) by;
+      goes = subst (λ (n : ℕ). IsPlanOfRun s (after_tick g b r) n plan) long (plans.ticks g b r is.interleaves.stands.long deadline s plan is.goes);
+      by = subst (IsRuleLog g plan) (sym log) by;
       shown = shown_after g s r b (suc (length r.log)) lines is.interleaves.lines deadline is.shown;
     }
 
-idles : (g : GraphTree) (trace : List Message) → IsRunnable g trace → (s : Serial) (r : Moment) (plan : List PlanItem) (lines : List OutLine)
+idles : (g : GraphTree) (trace : List Message) → IsSchedulable g trace → (s : Serial) (r : RunState) (plan : List PlanItem) (lines : List OutLine)
     → IsRunning g trace s r (suc (length r.log)) plan lines
-    → IsLegalRun g plan (r.log ++ None ∷ []) → IsRunning g trace s (with_idle r) (suc (length r.log)) plan lines
+    → IsRuleLog g plan (r.log ++ None ∷ []) → IsRunning g trace s (with_idle r) (suc (length r.log)) plan lines
 idles g trace able s r plan lines is by = record {
   interleaves = idling_keeps_serial g trace able.can s r is.interleaves;
-  goes = subst (λ (n : ℕ). GoesWith s (with_idle r) n plan) (length_push r.log None) (plans.idles s r plan is.goes);
+  goes = subst (λ (n : ℕ). IsPlanOfRun s (with_idle r) n plan) (length_push r.log None) (plans.idles s r plan is.goes);
   by = by;
   shown = record { order = is.shown.order; each = is.shown.each };
 }
 
-ends : (g : GraphTree) (trace : List Message) → IsRunnable g trace → (s : Serial) (r : Moment) (due : ℕ) (plan : List PlanItem) (lines : List OutLine)
-    → IsRunning g trace s r due plan lines → IsOver g s r → AllCome r due → length r.log ≡ max (busy_until r.log (length r.log)) (latest lines) → IsPromisedRun g trace r.log lines
+ends : (g : GraphTree) (trace : List Message) → IsSchedulable g trace → (s : Serial) (r : RunState) (due : ℕ) (plan : List PlanItem) (lines : List OutLine)
+    → IsRunning g trace s r due plan lines → IsOver g s r → AllShown r due → length r.log ≡ max (busy_until r.log (length r.log)) (latest lines) → IsPromisedRun g trace r.log lines
 ends g trace able s r due plan lines is over come end =
     let hold = lines_hold g able.can.well_formed able.can.rates trace able.can.keeps (order_of r.log) s is.interleaves.stands.along in
     ends_are_promised g trace able s r is.interleaves over plan due is.goes is.by lines

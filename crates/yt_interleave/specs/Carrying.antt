@@ -17,7 +17,7 @@ use Rattle.yt_chan.specs.declared.place.Arrived.TheVariants as target
 use Rattle.yt_chan.specs.Traffic.{Traffic, job_at, open_on, passed_over, placed_at, waits_at}
 use Rattle.yt_chan.specs.Waiting.{Waiting}
 use Rattle.yt_chan.specs.Wires.{line_of, source, wire_at}
-use Rattle.yt_interleave.specs.Interleaved.{Moment, known_at}
+use Rattle.yt_interleave.specs.Interleaved.{RunState, known_at}
 use Rattle.yt_interleave.specs.Lines.{come_before, messages_to}
 use Rattle.yt_interleave.specs.Waits.{wait_from}
 
@@ -38,8 +38,8 @@ pub record IsWireOf (g : GraphTree) (number : ℕ) (p : PortTree) (n : ℕ) (wir
 -- each port's job that is in handling has sent so far.
 --   `put` at a port that an input feeds, and `deliver_one` that answers a target, raise the target's `due` by one tick
 --   (`MessagesWait.input`, `port_comes`, `port_one`, `output_comes`); a `deliver_one` that answers None raises all that are left;
---   `send` adds to `sends` (`OnWayTick`); `close_job` empties them and takes the run to `with_end` (`sent`, `at_port`, `at_output`).
-pub record Carries (g : GraphTree) (s : Serial) (r : Moment) (due : Arrived → ℕ) (sends : ℕ → List SendItem) (traffic : Traffic) : Type 0 where
+--   `send` adds to `sends` (`MidHandlingTick`); `close_job` empties them and takes the run to `with_end` (`sent`, `at_port`, `at_output`).
+pub record Carries (g : GraphTree) (s : Serial) (r : RunState) (due : Arrived → ℕ) (sends : ℕ → List SendItem) (traffic : Traffic) : Type 0 where
   -- each out has a wire, and each target the wire of its feed
   pub wired : (port out : ℕ) (p : PortTree) → numbered g.ports port ≡ Some p → 1 ≤ out → out ≤ length p.outs →
       (line_of traffic.wires port out < length traffic.wires) × IsWireOf g port p out (wire_at traffic.wires (line_of traffic.wires port out))

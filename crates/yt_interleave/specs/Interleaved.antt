@@ -21,17 +21,17 @@ use Rattle.yt_serial.specs.Variables.{after_writes, writes_at, writes_of, variab
 use Rattle.yt_serial.specs.Beginnings.{nth_job}
 
 -- a job that has begun and not ended: its message, and the variables that serial handling has before it
-pub record Begun : Type 0 where
+pub record ActiveJob : Type 0 where
   pub job : Job
   pub message : PortMessage
   pub vars : List ℤ
 
 -- the log so far; the variables; for each port the job that is under way; and the messages of each port and of each output
 -- that are known: those of the trace, and those that ended jobs passed on. The known messages whose time has come are placed, the others wait
-pub record Moment : Type 0 where
+pub record RunState : Type 0 where
   pub log : Ticks
   pub vars : List ℤ
-  pub active : ℕ → Option Begun
+  pub active : ℕ → Option ActiveJob
   pub messages : List (List PortMessage)
   pub outputs : List (List PortMessage)
 
@@ -52,19 +52,19 @@ abbrev pub value_at : List ℤ → ℕ → ℤ
 value_at vars v = slice_index_or vars v (pos 0)
 
 -- what the job does from its beginning to its end
-abbrev pub whole_of : GraphTree → Begun → Handling
+abbrev pub whole_of : GraphTree → ActiveJob → Handling
 whole_of g b = handling (port_at g b.job.task) b.message.values b.vars
 
 -- its item in the plan
-abbrev pub item_of : GraphTree → Begun → PlanItem
+abbrev pub item_of : GraphTree → ActiveJob → PlanItem
 item_of g b = record { job = b.job; arrival = b.message.time; cost = (whole_of g b).ticks }
 
 -- the messages that it passes on through its outs
-abbrev pub passes_of : GraphTree → Begun → ℕ → List PortMessage
+abbrev pub passes_of : GraphTree → ActiveJob → ℕ → List PortMessage
 passes_of g b = passed g (port_at g b.job.task) b.job.number b.message.time (whole_of g b).sends
 
 -- the known messages of a port
-abbrev pub known_at : Moment → ℕ → List PortMessage
+abbrev pub known_at : RunState → ℕ → List PortMessage
 known_at r port = unwrap_or (numbered r.messages port) []
 
 -- a function with another value at one number
@@ -72,14 +72,14 @@ abbrev pub put : {X : Type 0} → ℕ → X → (ℕ → X) → ℕ → X
 put n x f m = if m == n then x else f m
 
 -- what a job that is under way will pass on through an out
-abbrev pub passed_by : GraphTree → Option Begun → ℕ → List PortMessage
+abbrev pub passed_by : GraphTree → Option ActiveJob → ℕ → List PortMessage
 passed_by g None out = []
 passed_by g (Some b) out = passes_of g b out
 
 -- what the jobs that are under way will bring a feed
-abbrev pub on_way : GraphTree → (ℕ → Option Begun) → Feed → List PortMessage
-on_way g active (feed.TheVariants.Input input) = []
-on_way g active (feed.TheVariants.Out port out) = passed_by g (active port) out
+abbrev pub to_come : GraphTree → (ℕ → Option ActiveJob) → Feed → List PortMessage
+to_come g active (feed.TheVariants.Input input) = []
+to_come g active (feed.TheVariants.Out port out) = passed_by g (active port) out
 
 -- each feed's messages, and behind them new ones
 abbrev pub added : (Feed → List PortMessage) → List Feed → List (List PortMessage) → List (List PortMessage)
@@ -92,8 +92,8 @@ abbrev pub output_feeds : GraphTree → List Feed
 output_feeds g = map (λ o. feed.TheVariants.Out o.port o.out) g.outputs
 
 -- before anything happened: the messages of the trace are known
-abbrev pub first_moment : GraphTree → List Message → Moment
-first_moment g trace = record {
+abbrev pub first_state : GraphTree → List Message → RunState
+first_state g trace = record {
   log = [];
   vars = (start g trace).vars;
   active = λ port. None;
@@ -102,23 +102,23 @@ first_moment g trace = record {
 }
 
 -- a job begins with a message; `vars` are serial handling's variables before it
-abbrev pub with_begun : Job → PortMessage → List ℤ → Moment → Moment
+abbrev pub with_begun : Job → PortMessage → List ℤ → RunState → RunState
 with_begun job message vars r =
     record r { active = put job.task (Some (record { job = job; message = message; vars = vars })) r.active }
 
 -- a job that is under way is given a tick: its writes of that tick are made
-abbrev pub with_tick : GraphTree → Begun → Moment → Moment
+abbrev pub with_tick : GraphTree → ActiveJob → RunState → RunState
 with_tick g b r = record r {
   log = r.log ++ Some b.job ∷ [];
   vars = after_writes (writes_at (done r.log b.job (length r.log)) (whole_of g b).writes) r.vars;
 }
 
 -- an idle tick
-abbrev pub with_idle : Moment → Moment
+abbrev pub with_idle : RunState → RunState
 with_idle r = record r { log = r.log ++ None ∷ [] }
 
 -- a job has ended: its messages get their times, and wait from now on
-abbrev pub with_end : GraphTree → Begun → Moment → Moment
+abbrev pub with_end : GraphTree → ActiveJob → RunState → RunState
 with_end g b r = record r {
   active = put b.job.task None r.active;
   messages = placed (brought b.job.task (passes_of g b)) g.ports r.messages;
@@ -126,7 +126,7 @@ with_end g b r = record r {
 }
 
 -- a job is under way at a port: it is the port's last that began, and its message has come
-pub record IsUnderWay (g : GraphTree) (s : Serial) (log : Ticks) (vars : List ℤ) (port : ℕ) (b : Begun) : Type 0 where
+pub record IsActiveJob (g : GraphTree) (s : Serial) (log : Ticks) (vars : List ℤ) (port : ℕ) (b : ActiveJob) : Type 0 where
   pub task : b.job.task ≡ port
   pub number : b.job.number ≡ handled_of s port
   pub there : numbered (messages_at s port) b.job.number ≡ Some b.message
@@ -140,27 +140,27 @@ pub record IsUnderWay (g : GraphTree) (s : Serial) (log : Ticks) (vars : List �
   pub later : (v : ℕ) → Uses g port v → value_at s.vars v ≡ value_at (whole_of g b).vars v
 
 -- a port's job that is under way uses a variable
-abbrev pub IsInUse : GraphTree → (ℕ → Option Begun) → ℕ → Type 0
-IsInUse g active v = (port : ℕ) × (b : Begun) × (active port ≡ Some b) × Uses g port v
+abbrev pub IsInUse : GraphTree → (ℕ → Option ActiveJob) → ℕ → Type 0
+IsInUse g active v = (port : ℕ) × (b : ActiveJob) × (active port ≡ Some b) × Uses g port v
 
 -- an item of serial handling is of a job that is under way, or of one that has ended
-abbrev pub IsEndedOrActive : GraphTree → Ticks → (ℕ → Option Begun) → PlanItem → Type 0
+abbrev pub IsEndedOrActive : GraphTree → Ticks → (ℕ → Option ActiveJob) → PlanItem → Type 0
 IsEndedOrActive g log active z =
-    ((b : Begun) × (active z.job.task ≡ Some b) × (z ≡ item_of g b)) ⊎ (done log z.job (length log) ≡ z.cost)
+    ((b : ActiveJob) × (active z.job.task ≡ Some b) × (z ≡ item_of g b)) ⊎ (done log z.job (length log) ≡ z.cost)
 
 -- no job of a port has a tick before all earlier ones of the port have begun
 abbrev pub BeginInTurn : Ticks → Type 0
 BeginInTurn log = (t : ℕ) (job : Job) → tick log t ≡ Some job → (k : ℕ) → 1 ≤ k → k < job.number → 0 < done log (nth_job job.task k) t
 
 -- the interleaved run stands for serial handling along the jobs that have begun, in this order
-pub record StandsFor (g : GraphTree) (trace : List Message) (order : List Job) (s : Serial) (r : Moment) : Type 0 where
+pub record MatchesSerial (g : GraphTree) (trace : List Message) (order : List Job) (s : Serial) (r : RunState) : Type 0 where
   pub along : serial_run g order (start g trace) ≡ Some s
-  pub under_way : (port : ℕ) (b : Begun) → r.active port ≡ Some b → IsUnderWay g s r.log r.vars port b
-  pub exclusive : (p q : ℕ) (b c : Begun) → r.active p ≡ Some b → r.active q ≡ Some c → (p ≡ q → ⊥) → 0 < group_at g p → group_at g p ≡ group_at g q → ⊥
-  pub known : (port : ℕ) (b : Begun) → r.active port ≡ Some b → numbered (known_at r port) b.job.number ≡ Some b.message
+  pub under_way : (port : ℕ) (b : ActiveJob) → r.active port ≡ Some b → IsActiveJob g s r.log r.vars port b
+  pub exclusive : (p q : ℕ) (b c : ActiveJob) → r.active p ≡ Some b → r.active q ≡ Some c → (p ≡ q → ⊥) → 0 < group_at g p → group_at g p ≡ group_at g q → ⊥
+  pub known : (port : ℕ) (b : ActiveJob) → r.active port ≡ Some b → numbered (known_at r port) b.job.number ≡ Some b.message
   -- the messages of serial handling are the known ones and those that the jobs under way will pass on
   pub long : length r.messages ≡ length g.ports
-  pub messages : s.messages ≡ placed (on_way g r.active) g.ports r.messages
+  pub messages : s.messages ≡ placed (to_come g r.active) g.ports r.messages
   -- variables that no job under way uses are those of serial handling, and all are what the ticks so far have written
   pub count : length r.vars ≡ length s.vars
   pub others : (v : ℕ) → (value_at r.vars v ≡ value_at s.vars v) ⊎ IsInUse g r.active v

@@ -10,41 +10,41 @@ use Rattle.yt_rates.specs.Faults.{IsWithinRates}
 use Rattle.yt_rates.specs.Tables.{tasks_of}
 use Rattle.yt_serial.specs.declared.shown.OutLine.{OutLine}
 use Rattle.yt_serial.specs.declared.trace.Message.{Message}
-use Rattle.yt_serial.specs.Judged.{IsRunnable}
+use Rattle.yt_serial.specs.Judged.{IsSchedulable}
 use Rattle.yt_serial.specs.PortMessages.{PortMessage}
 use Rattle.yt_serial.specs.SerialHandling.{Handled, Serial, handle_message, handled_along, plan_of_log, start}
 use Rattle.yt_serial.specs.Told.{AllHandled, BeginsInOrder, IsPromisedRun}
 use Rattle.yt_serial.specs.Traces.{KeepsPeriods}
-use Rattle.yt_interleave.specs.Interleaved.{Begun, Moment, first_moment, with_begun, with_idle}
+use Rattle.yt_interleave.specs.Interleaved.{ActiveJob, RunState, first_state, with_begun, with_idle}
 use Rattle.yt_serial.specs.Variables.{variables_at}
-use Rattle.yt_interleave.specs.Moves.{MayBegin, after_tick, begun_of, Interleaves, IsOver}
-use Rattle.yt_interleave.specs.Timing.{GoesWith, IsLegalRun, IsShown}
+use Rattle.yt_interleave.specs.Moves.{MayBegin, after_tick, active_job, Interleaves, IsOver}
+use Rattle.yt_interleave.specs.Timing.{IsPlanOfRun, IsRuleLog, TellsLines}
 use Rattle.yt_serial.specs.Laws.{CanRun}
 
 -- before the first tick nothing is handled
 abbrev pub StartsSerial : Type 0
-StartsSerial = (g : GraphTree) (trace : List Message) → CanRun g trace → Interleaves g trace (start g trace) (first_moment g trace)
+StartsSerial = (g : GraphTree) (trace : List Message) → CanRun g trace → Interleaves g trace (start g trace) (first_state g trace)
 
 -- in a tick in which a job begins, serial handling goes on by the job's step
 abbrev pub BeginsKeepSerial : Type 0
 BeginsKeepSerial =
-    (g : GraphTree) (trace : List Message) → CanRun g trace → (s : Serial) (r : Moment) → Interleaves g trace s r →
+    (g : GraphTree) (trace : List Message) → CanRun g trace → (s : Serial) (r : RunState) → Interleaves g trace s r →
     (job : Job) (m : PortMessage) → MayBegin g s r job m →
-    Interleaves g trace (handle_message g job m s) (after_tick g (begun_of job m s) (with_begun job m s.vars r))
+    Interleaves g trace (handle_message g job m s) (after_tick g (active_job job m s) (with_begun job m s.vars r))
 
 -- in each other tick of a job it stays where it is
 abbrev pub TicksKeepSerial : Type 0
 TicksKeepSerial =
-    (g : GraphTree) (trace : List Message) → CanRun g trace → (s : Serial) (r : Moment) → Interleaves g trace s r →
-    (port : ℕ) (b : Begun) → r.active port ≡ Some b → Interleaves g trace s (after_tick g b r)
+    (g : GraphTree) (trace : List Message) → CanRun g trace → (s : Serial) (r : RunState) → Interleaves g trace s r →
+    (port : ℕ) (b : ActiveJob) → r.active port ≡ Some b → Interleaves g trace s (after_tick g b r)
 
 -- and so in an idle tick
 abbrev pub IdlingKeepsSerial : Type 0
 IdlingKeepsSerial =
-    (g : GraphTree) (trace : List Message) → CanRun g trace → (s : Serial) (r : Moment) → Interleaves g trace s r → Interleaves g trace s (with_idle r)
+    (g : GraphTree) (trace : List Message) → CanRun g trace → (s : Serial) (r : RunState) → Interleaves g trace s r → Interleaves g trace s (with_idle r)
 
 -- what holds when all is over: the log tells the run of serial handling along its order of beginning, and the variables are those of serial handling
-pub record IsSerialRun (g : GraphTree) (trace : List Message) (s : Serial) (r : Moment) : Type 0 where
+pub record HasHandledAll (g : GraphTree) (trace : List Message) (s : Serial) (r : RunState) : Type 0 where
   pub along : handled_along g trace r.log ≡ Some s
   pub all : AllHandled g s
   pub lawful : IsLawful (plan_of_log g trace r.log) r.log
@@ -54,17 +54,17 @@ pub record IsSerialRun (g : GraphTree) (trace : List Message) (s : Serial) (r : 
 
 abbrev pub EndsAreSerial : Type 0
 EndsAreSerial =
-    (g : GraphTree) (trace : List Message) → CanRun g trace → (s : Serial) (r : Moment) → Interleaves g trace s r → IsOver g s r → IsSerialRun g trace s r
+    (g : GraphTree) (trace : List Message) → CanRun g trace → (s : Serial) (r : RunState) → Interleaves g trace s r → IsOver g s r → HasHandledAll g trace s r
 
 -- however the log goes on, and whatever serial handling along it comes to: the variables now are those at the start after all writes of the ticks so far
 abbrev pub VariablesAreWritten : Type 0
 VariablesAreWritten =
-    (g : GraphTree) (trace : List Message) → CanRun g trace → (s : Serial) (r : Moment) → Interleaves g trace s r →
+    (g : GraphTree) (trace : List Message) → CanRun g trace → (s : Serial) (r : RunState) → Interleaves g trace s r →
     (more : Ticks) (whole : Serial) → handled_along g trace (r.log ++ more) ≡ Some whole →
     variables_at (start g trace).vars whole.handled (r.log ++ more) (length r.log) ≡ r.vars
 
 -- where the log is the rule's for a legal plan that goes with the run, it keeps every promise of a run
 abbrev pub EndsArePromised : Type 0
 EndsArePromised =
-    (g : GraphTree) (trace : List Message) → IsRunnable g trace → (s : Serial) (r : Moment) → Interleaves g trace s r → IsOver g s r →
-    (plan : List PlanItem) (due : ℕ) → GoesWith s r due plan → IsLegalRun g plan r.log → (lines : List OutLine) → IsShown s r.log lines → IsPromisedRun g trace r.log lines
+    (g : GraphTree) (trace : List Message) → IsSchedulable g trace → (s : Serial) (r : RunState) → Interleaves g trace s r → IsOver g s r →
+    (plan : List PlanItem) (due : ℕ) → IsPlanOfRun s r due plan → IsRuleLog g plan r.log → (lines : List OutLine) → TellsLines s r.log lines → IsPromisedRun g trace r.log lines

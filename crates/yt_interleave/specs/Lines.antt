@@ -7,7 +7,7 @@ use Rattle.yt_serial.specs.declared.shown.OutLine.{OutLine}
 use Rattle.yt_serial.specs.PortMessages.{PortMessage, numbered}
 use Rattle.yt_serial.specs.SerialHandling.{Serial, shown}
 use Rattle.yt_serial.specs.Told.{line_before}
-use Rattle.yt_interleave.specs.Interleaved.{Moment, on_way, added, output_feeds}
+use Rattle.yt_interleave.specs.Interleaved.{RunState, to_come, added, output_feeds}
 use Rattle.yt_serial.specs.Lines.{lines_of, AreInLineOrder}
 
 -- the messages of an output
@@ -15,9 +15,9 @@ abbrev pub messages_to : List (List PortMessage) → ℕ → List PortMessage
 messages_to outputs n = unwrap_or (numbered outputs n) []
 
 -- the lines of serial handling are those of the known messages and of those that the jobs under way will pass on
-pub record KnowsLines (g : GraphTree) (s : Serial) (r : Moment) : Type 0 where
+pub record KnowsLines (g : GraphTree) (s : Serial) (r : RunState) : Type 0 where
   pub count : length r.outputs ≡ length g.outputs
-  pub lines : (n : ℕ) → lines_of n s.lines ≡ shown n (messages_to (added (on_way g r.active) (output_feeds g) r.outputs) n)
+  pub lines : (n : ℕ) → lines_of n s.lines ≡ shown n (messages_to (added (to_come g r.active) (output_feeds g) r.outputs) n)
 
 -- the messages that come before a tick
 abbrev pub come_before : ℕ → List PortMessage → List PortMessage
@@ -30,6 +30,6 @@ come_at t [] = []
 come_at t (m ∷ messages) = if m.time == t then m ∷ come_at t messages else come_at t messages
 
 -- what was shown: in order, the known messages of each output that came before a tick
-pub record HasShown (r : Moment) (due : ℕ) (lines : List OutLine) : Type 0 where
+pub record HasShown (r : RunState) (due : ℕ) (lines : List OutLine) : Type 0 where
   pub order : AreInLineOrder lines
   pub each : (n : ℕ) → lines_of n lines ≡ shown n (come_before due (messages_to r.outputs n))

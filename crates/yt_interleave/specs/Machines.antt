@@ -15,7 +15,7 @@ use Rattle.yt_serial.specs.declared.trace.Message.{Message}
 use Rattle.yt_serial.specs.PortMessages.{PortMessage}
 use Rattle.yt_serial.specs.SerialHandling.{Serial}
 use Rattle.yt_serial.specs.Variables.{after_writes, writes_at}
-use Rattle.yt_interleave.specs.Interleaved.{Begun, Moment, port_at, whole_of}
+use Rattle.yt_interleave.specs.Interleaved.{ActiveJob, RunState, port_at, whole_of}
 use Rattle.yt_serial.specs.Laws.{CanRun}
 use Rattle.yt_interleave.specs.Moves.{MayBegin, Interleaves}
 
@@ -64,17 +64,17 @@ ticks_left instrs (suc fuel) m vars = left_by (instruction_step instrs m vars) (
 -- each tick of a job that is under way is one of its machine alone, and its machine has as many ticks left as the handling
 pub record MachinesGoOn : Type 0 where
   pub ticks :
-      (g : GraphTree) (trace : List Message) → CanRun g trace → (s : Serial) (r : Moment) → Interleaves g trace s r →
-      (port : ℕ) (b : Begun) → r.active port ≡ Some b → (code : Program) → MeansPort code (port_at g port) → UsesVarsOf code (port_at g port) →
+      (g : GraphTree) (trace : List Message) → CanRun g trace → (s : Serial) (r : RunState) → Interleaves g trace s r →
+      (port : ℕ) (b : ActiveJob) → r.active port ≡ Some b → (code : Program) → MeansPort code (port_at g port) → UsesVarsOf code (port_at g port) →
       (p : Progress) → IsAloneAt code b.message.values b.vars (done r.log b.job (length r.log)) p →
       IsTickOf code (port_at g port) b.message.values b.vars (done r.log b.job (length r.log)) p r.vars
   -- in the first tick of a job, at its beginning
   pub first :
-      (g : GraphTree) (trace : List Message) → CanRun g trace → (s : Serial) (r : Moment) → Interleaves g trace s r →
+      (g : GraphTree) (trace : List Message) → CanRun g trace → (s : Serial) (r : RunState) → Interleaves g trace s r →
       (job : Job) (m : PortMessage) → MayBegin g s r job m → (code : Program) → MeansPort code (port_at g job.task) → UsesVarsOf code (port_at g job.task) →
       IsTickOf code (port_at g job.task) m.values s.vars 0 (begin_alone code m.values s.vars) r.vars
   pub left :
-      (g : GraphTree) (trace : List Message) → CanRun g trace → (s : Serial) (r : Moment) → Interleaves g trace s r →
-      (port : ℕ) (b : Begun) → r.active port ≡ Some b → (code : Program) → MeansPort code (port_at g port) → UsesVarsOf code (port_at g port) →
+      (g : GraphTree) (trace : List Message) → CanRun g trace → (s : Serial) (r : RunState) → Interleaves g trace s r →
+      (port : ℕ) (b : ActiveJob) → r.active port ≡ Some b → (code : Program) → MeansPort code (port_at g port) → UsesVarsOf code (port_at g port) →
       (p : Progress) → IsAloneAt code b.message.values b.vars (done r.log b.job (length r.log)) p →
       (fuel : ℕ) → (whole_of g b).ticks ≤ fuel → done r.log b.job (length r.log) + ticks_left code.instrs fuel p.machine r.vars ≡ (whole_of g b).ticks

@@ -15,112 +15,112 @@ use Rattle.yt_serial.specs.Beginnings.{busy_until, nth_job}
 use Rattle.yt_serial.specs.PortMessages.{PortMessage, numbered}
 use Rattle.yt_serial.specs.SerialHandling.{Serial, messages_at, handled_of, shown, start, handle_message, handled_along}
 use Rattle.yt_serial.specs.Told.{latest, IsPromisedRun}
-use Rattle.yt_interleave.specs.Interleaved.{Begun, Moment, known_at, whole_of, first_moment, with_begun, with_idle}
+use Rattle.yt_interleave.specs.Interleaved.{ActiveJob, RunState, known_at, whole_of, first_state, with_begun, with_idle}
 use Rattle.yt_serial.specs.Variables.{variables_at}
 use Rattle.yt_serial.specs.Laws.{CanRun}
 use Rattle.yt_serial.specs.Lines.{lines_of, AreInLineOrder}
 use Rattle.yt_interleave.specs.Lines.{messages_to, come_at, HasShown}
-use Rattle.yt_interleave.specs.Moves.{MayBegin, after_tick, begun_of, Interleaves, IsOver}
-use Rattle.yt_interleave.specs.Timing.{HasEnded, IsOnTime, IsPending, IsResourceFree, GoesWith, IsLegalRun}
-use Rattle.yt_serial.specs.Judged.{IsRunnable}
+use Rattle.yt_interleave.specs.Moves.{MayBegin, after_tick, active_job, Interleaves, IsOver}
+use Rattle.yt_interleave.specs.Timing.{HasEnded, IsOnTime, WaitsToBegin, IsResourceFree, IsPlanOfRun, IsRuleLog}
+use Rattle.yt_serial.specs.Judged.{IsSchedulable}
 
 -- a run between two ticks: what came before `due` is placed, released and shown
-pub record IsRunning (g : GraphTree) (trace : List Message) (s : Serial) (r : Moment) (due : ℕ) (plan : List PlanItem) (lines : List OutLine) : Type 0 where
+pub record IsRunning (g : GraphTree) (trace : List Message) (s : Serial) (r : RunState) (due : ℕ) (plan : List PlanItem) (lines : List OutLine) : Type 0 where
   pub interleaves : Interleaves g trace s r
-  pub goes : GoesWith s r due plan
-  pub by : IsLegalRun g plan r.log
+  pub goes : IsPlanOfRun s r due plan
+  pub by : IsRuleLog g plan r.log
   pub shown : HasShown r due lines
 
 -- items of all the known messages that come now, and of no others
-pub record AreReleased (r : Moment) (new : List PlanItem) : Type 0 where
+pub record AreReleased (r : RunState) (new : List PlanItem) : Type 0 where
   pub known : (z : PlanItem) → Has new z → (m : PortMessage) × (numbered (known_at r z.job.task) z.job.number ≡ Some m) × (m.time ≡ z.arrival)
   pub now : (z : PlanItem) → Has new z → z.arrival ≡ length r.log
   pub all : (port n : ℕ) (m : PortMessage) → numbered (known_at r port) n ≡ Some m → m.time ≡ length r.log → (z : PlanItem) × (Has new z) × (z.job ≡ nth_job port n)
 
 -- lines of the known messages that come now, in order
-pub record AreShownNow (r : Moment) (more : List OutLine) : Type 0 where
+pub record AreShownNow (r : RunState) (more : List OutLine) : Type 0 where
   pub order : AreInLineOrder more
   pub times : (l : OutLine) → Has more l → l.time ≡ length r.log
   pub each : (n : ℕ) → lines_of n more ≡ shown n (come_at (length r.log) (messages_to r.outputs n))
 
 -- all known messages of outputs have come
-abbrev pub AllCome : Moment → ℕ → Type 0
-AllCome r due = (n k : ℕ) (x : PortMessage) → slice_get (messages_to r.outputs n) k ≡ Some x → x.time < due
+abbrev pub AllShown : RunState → ℕ → Type 0
+AllShown r due = (n k : ℕ) (x : PortMessage) → slice_get (messages_to r.outputs n) k ≡ Some x → x.time < due
 
 -- how a run goes on, and to what it comes
 pub record RunsGoOn : Type 0 where
-  pub starts : (g : GraphTree) (trace : List Message) → IsRunnable g trace → IsRunning g trace (start g trace) (first_moment g trace) 0 [] []
+  pub starts : (g : GraphTree) (trace : List Message) → IsSchedulable g trace → IsRunning g trace (start g trace) (first_state g trace) 0 [] []
   -- what comes at a tick is placed, released and shown
   pub places :
-      (g : GraphTree) (trace : List Message) → IsRunnable g trace → (s : Serial) (r : Moment) (plan : List PlanItem) (lines : List OutLine) →
+      (g : GraphTree) (trace : List Message) → IsSchedulable g trace → (s : Serial) (r : RunState) (plan : List PlanItem) (lines : List OutLine) →
       IsRunning g trace s r (length r.log) plan lines → (new : List PlanItem) (more : List OutLine) → AreReleased r new → AreShownNow r more →
-      IsLegalRun g (plan ++ new) r.log → IsRunning g trace s r (suc (length r.log)) (plan ++ new) (lines ++ more)
+      IsRuleLog g (plan ++ new) r.log → IsRunning g trace s r (suc (length r.log)) (plan ++ new) (lines ++ more)
   -- a job begins and has its first tick
   pub begins :
-      (g : GraphTree) (trace : List Message) → IsRunnable g trace → (s : Serial) (r : Moment) (plan : List PlanItem) (lines : List OutLine) →
-      IsRunning g trace s r (suc (length r.log)) plan lines → (job : Job) (m : PortMessage) → IsPending r job m →
-      IsLegalRun g (with_cost job (whole_of g (begun_of job m s)).ticks plan) (r.log ++ Some job ∷ []) →
-      IsRunning g trace (handle_message g job m s) (after_tick g (begun_of job m s) (with_begun job m s.vars r)) (suc (length r.log))
-      (with_cost job (whole_of g (begun_of job m s)).ticks plan) lines
+      (g : GraphTree) (trace : List Message) → IsSchedulable g trace → (s : Serial) (r : RunState) (plan : List PlanItem) (lines : List OutLine) →
+      IsRunning g trace s r (suc (length r.log)) plan lines → (job : Job) (m : PortMessage) → WaitsToBegin r job m →
+      IsRuleLog g (with_cost job (whole_of g (active_job job m s)).ticks plan) (r.log ++ Some job ∷ []) →
+      IsRunning g trace (handle_message g job m s) (after_tick g (active_job job m s) (with_begun job m s.vars r)) (suc (length r.log))
+      (with_cost job (whole_of g (active_job job m s)).ticks plan) lines
   -- a job that is under way has a tick
   pub ticks :
-      (g : GraphTree) (trace : List Message) → IsRunnable g trace → (s : Serial) (r : Moment) (plan : List PlanItem) (lines : List OutLine) →
-      IsRunning g trace s r (suc (length r.log)) plan lines → (port : ℕ) (b : Begun) → r.active port ≡ Some b →
-      IsLegalRun g plan (r.log ++ Some b.job ∷ []) → IsRunning g trace s (after_tick g b r) (suc (length r.log)) plan lines
+      (g : GraphTree) (trace : List Message) → IsSchedulable g trace → (s : Serial) (r : RunState) (plan : List PlanItem) (lines : List OutLine) →
+      IsRunning g trace s r (suc (length r.log)) plan lines → (port : ℕ) (b : ActiveJob) → r.active port ≡ Some b →
+      IsRuleLog g plan (r.log ++ Some b.job ∷ []) → IsRunning g trace s (after_tick g b r) (suc (length r.log)) plan lines
   pub idles :
-      (g : GraphTree) (trace : List Message) → IsRunnable g trace → (s : Serial) (r : Moment) (plan : List PlanItem) (lines : List OutLine) →
+      (g : GraphTree) (trace : List Message) → IsSchedulable g trace → (s : Serial) (r : RunState) (plan : List PlanItem) (lines : List OutLine) →
       IsRunning g trace s r (suc (length r.log)) plan lines →
-      IsLegalRun g plan (r.log ++ None ∷ []) → IsRunning g trace s (with_idle r) (suc (length r.log)) plan lines
-  pub grows : (g : GraphTree) (b : Begun) (r : Moment) → (after_tick g b r).log ≡ r.log ++ Some b.job ∷ []
+      IsRuleLog g plan (r.log ++ None ∷ []) → IsRunning g trace s (with_idle r) (suc (length r.log)) plan lines
+  pub grows : (g : GraphTree) (b : ActiveJob) (r : RunState) → (after_tick g b r).log ≡ r.log ++ Some b.job ∷ []
   pub ends :
-      (g : GraphTree) (trace : List Message) → IsRunnable g trace → (s : Serial) (r : Moment) (due : ℕ) (plan : List PlanItem) (lines : List OutLine) →
-      IsRunning g trace s r due plan lines → IsOver g s r → AllCome r due → length r.log ≡ max (busy_until r.log (length r.log)) (latest lines) → IsPromisedRun g trace r.log lines
+      (g : GraphTree) (trace : List Message) → IsSchedulable g trace → (s : Serial) (r : RunState) (due : ℕ) (plan : List PlanItem) (lines : List OutLine) →
+      IsRunning g trace s r due plan lines → IsOver g s r → AllShown r due → length r.log ≡ max (busy_until r.log (length r.log)) (latest lines) → IsPromisedRun g trace r.log lines
 
 -- when the log ends with the last job and the last line: after a tick that went to a job, and where a line was shown now
 pub record RunsEnd : Type 0 where
   pub busy :
-      (g : GraphTree) (trace : List Message) (s : Serial) (r : Moment) (due : ℕ) (plan : List PlanItem) (lines : List OutLine) →
+      (g : GraphTree) (trace : List Message) (s : Serial) (r : RunState) (due : ℕ) (plan : List PlanItem) (lines : List OutLine) →
       IsRunning g trace s r due plan lines → due ≤ suc (length r.log) → (log : Ticks) (job : Job) → r.log ≡ log ++ Some job ∷ [] →
       length r.log ≡ max (busy_until r.log (length r.log)) (latest lines)
   pub shown :
-      (g : GraphTree) (trace : List Message) (s : Serial) (r : Moment) (due : ℕ) (plan : List PlanItem) (lines : List OutLine) →
+      (g : GraphTree) (trace : List Message) (s : Serial) (r : RunState) (due : ℕ) (plan : List PlanItem) (lines : List OutLine) →
       IsRunning g trace s r due plan lines → due ≤ suc (length r.log) → (l : OutLine) → Has lines l → l.time ≡ length r.log →
       length r.log ≡ max (busy_until r.log (length r.log)) (latest lines)
   pub none :
-      (g : GraphTree) (trace : List Message) (s : Serial) (r : Moment) (due : ℕ) (plan : List PlanItem) (lines : List OutLine) →
+      (g : GraphTree) (trace : List Message) (s : Serial) (r : RunState) (due : ℕ) (plan : List PlanItem) (lines : List OutLine) →
       IsRunning g trace s r due plan lines → due ≤ suc (length r.log) → r.log ≡ [] → length r.log ≡ max (busy_until r.log (length r.log)) (latest lines)
 
 -- what kept deadlines give at each moment
 pub record RunsAreOnTime : Type 0 where
   pub on_time :
-      (g : GraphTree) (trace : List Message) → IsRunnable g trace → (s : Serial) (r : Moment) (due : ℕ) (plan : List PlanItem) (lines : List OutLine) →
+      (g : GraphTree) (trace : List Message) → IsSchedulable g trace → (s : Serial) (r : RunState) (due : ℕ) (plan : List PlanItem) (lines : List OutLine) →
       IsRunning g trace s r due plan lines → length r.log ≤ due → IsOnTime g s r
   -- a job whose message has come and that had no tick may begin where its resource is free
   pub may_begin :
-      (g : GraphTree) (trace : List Message) → IsRunnable g trace → (s : Serial) (r : Moment) → Interleaves g trace s r → IsOnTime g s r →
-      (job : Job) (m : PortMessage) → IsPending r job m → IsResourceFree g r job.task → MayBegin g s r job m
+      (g : GraphTree) (trace : List Message) → IsSchedulable g trace → (s : Serial) (r : RunState) → Interleaves g trace s r → IsOnTime g s r →
+      (job : Job) (m : PortMessage) → WaitsToBegin r job m → IsResourceFree g r job.task → MayBegin g s r job m
   -- so it is where a log of the rule goes on with the job
   pub free :
-      (g : GraphTree) (trace : List Message) → IsRunnable g trace → (s : Serial) (r : Moment) (due : ℕ) (plan : List PlanItem) (lines : List OutLine) →
-      IsRunning g trace s r due plan lines → (job : Job) (m : PortMessage) → IsPending r job m →
-      (cost : ℕ) → IsLegalRun g (with_cost job cost plan) (r.log ++ Some job ∷ []) → IsResourceFree g r job.task
+      (g : GraphTree) (trace : List Message) → IsSchedulable g trace → (s : Serial) (r : RunState) (due : ℕ) (plan : List PlanItem) (lines : List OutLine) →
+      IsRunning g trace s r due plan lines → (job : Job) (m : PortMessage) → WaitsToBegin r job m →
+      (cost : ℕ) → IsRuleLog g (with_cost job cost plan) (r.log ++ Some job ∷ []) → IsResourceFree g r job.task
   -- a message that comes now is its port's next, and no job of the port is under way
   pub port_free :
-      (g : GraphTree) (trace : List Message) → IsRunnable g trace → (s : Serial) (r : Moment) → Interleaves g trace s r → IsOnTime g s r →
+      (g : GraphTree) (trace : List Message) → IsSchedulable g trace → (s : Serial) (r : RunState) → Interleaves g trace s r → IsOnTime g s r →
       (port n : ℕ) (m : PortMessage) → numbered (known_at r port) n ≡ Some m → m.time ≡ length r.log → (n ≡ suc (handled_of s port)) × (r.active port ≡ None)
   -- the message of a job that has not ended is the last that came to its port
   pub held :
-      (g : GraphTree) (trace : List Message) → IsRunnable g trace → (s : Serial) (r : Moment) → Interleaves g trace s r → IsOnTime g s r →
+      (g : GraphTree) (trace : List Message) → IsSchedulable g trace → (s : Serial) (r : RunState) → Interleaves g trace s r → IsOnTime g s r →
       (port n k : ℕ) (m x : PortMessage) → numbered (known_at r port) n ≡ Some m → (HasEnded s r port n → ⊥) →
       numbered (messages_at s port) k ≡ Some x → x.time ≤ length r.log → k ≤ n
   -- a job's last tick is before its deadline, so what it passes on is not due before
   pub before_deadline :
-      (g : GraphTree) (trace : List Message) → IsRunnable g trace → (s : Serial) (r : Moment) → Interleaves g trace s r → IsOnTime g s r →
+      (g : GraphTree) (trace : List Message) → IsSchedulable g trace → (s : Serial) (r : RunState) → Interleaves g trace s r → IsOnTime g s r →
       (port n : ℕ) (p : PortTree) (m : PortMessage) → numbered g.ports port ≡ Some p → numbered (known_at r port) n ≡ Some m → (HasEnded s r port n → ⊥) →
       length r.log < m.time + period_of g p
 
 -- a promised run's log starts with that of a moment, and its variables at the moment are the moment's
-pub record StartsWith (g : GraphTree) (trace : List Message) (r : Moment) (whole : Ticks) : Type 0 where
+pub record StartsWith (g : GraphTree) (trace : List Message) (r : RunState) (whole : Ticks) : Type 0 where
   pub rest : Ticks
   pub log : whole ≡ r.log ++ rest
   pub variables : (s : Serial) → handled_along g trace whole ≡ Some s → variables_at (start g trace).vars s.handled whole (length r.log) ≡ r.vars
@@ -128,6 +128,6 @@ pub record StartsWith (g : GraphTree) (trace : List Message) (r : Moment) (whole
 -- a run as far as it has come is the start of each promised run that is no shorter
 abbrev pub RunsAgree : Type 0
 RunsAgree =
-    (g : GraphTree) (trace : List Message) → IsRunnable g trace → (s : Serial) (r : Moment) (due : ℕ) (plan : List PlanItem) (lines : List OutLine) →
+    (g : GraphTree) (trace : List Message) → IsSchedulable g trace → (s : Serial) (r : RunState) (due : ℕ) (plan : List PlanItem) (lines : List OutLine) →
     IsRunning g trace s r due plan lines → length r.log ≤ due → (whole : Ticks) (all : List OutLine) → IsPromisedRun g trace whole all → length r.log ≤ length whole →
     StartsWith g trace r whole

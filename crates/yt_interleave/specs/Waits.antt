@@ -10,7 +10,7 @@ use Rattle.yt_rates.specs.Rates.{every_of, period_of, gap_of}
 use Rattle.yt_serial.specs.declared.trace.Message.{Message}
 use Rattle.yt_serial.specs.PortMessages.{PortMessage, numbered, messages_of, passed}
 use Rattle.yt_serial.specs.SerialHandling.{Serial, messages_at, brought}
-use Rattle.yt_interleave.specs.Interleaved.{Begun, Moment, port_at, known_at, passes_of, with_end}
+use Rattle.yt_interleave.specs.Interleaved.{ActiveJob, RunState, port_at, known_at, passes_of, with_end}
 use Rattle.yt_serial.specs.Laws.{CanRun}
 use Rattle.yt_interleave.specs.Lines.{messages_to, come_at}
 use Rattle.yt_interleave.specs.Moves.{Interleaves}
@@ -33,31 +33,31 @@ pub record MessagesWait : Type 0 where
       passed g port number arrival sends out ≡ (if number % every_of port out == 0 then timed (arrival + period_of g port) (gap_of g port out) (messages_on out sends) else [])
   -- a port that an input feeds knows the trace's messages, and no others
   pub input :
-      (g : GraphTree) (trace : List Message) → CanRun g trace → (s : Serial) (r : Moment) → Interleaves g trace s r →
+      (g : GraphTree) (trace : List Message) → CanRun g trace → (s : Serial) (r : RunState) → Interleaves g trace s r →
       (port : ℕ) (p : PortTree) (i : ℕ) → numbered g.ports port ≡ Some p → p.feed ≡ Input i → known_at r port ≡ messages_of i trace
   -- where a job ends before its deadline, its messages wait behind those that waited, at each port and at each output
   pub at_port :
-      (g : GraphTree) (trace : List Message) → CanRun g trace → (s : Serial) (r : Moment) → Interleaves g trace s r →
-      (b : Begun) (due : ℕ) → due ≤ b.message.time + period_of g (port_at g b.job.task) → (port : ℕ) (p : PortTree) → numbered g.ports port ≡ Some p →
+      (g : GraphTree) (trace : List Message) → CanRun g trace → (s : Serial) (r : RunState) → Interleaves g trace s r →
+      (b : ActiveJob) (due : ℕ) → due ≤ b.message.time + period_of g (port_at g b.job.task) → (port : ℕ) (p : PortTree) → numbered g.ports port ≡ Some p →
       wait_from due (known_at (with_end g b r) port) ≡ wait_from due (known_at r port) ++ brought b.job.task (passes_of g b) p.feed
   pub at_output :
-      (g : GraphTree) (trace : List Message) → CanRun g trace → (s : Serial) (r : Moment) → Interleaves g trace s r →
-      (b : Begun) (due : ℕ) → due ≤ b.message.time + period_of g (port_at g b.job.task) → (n : ℕ) (o : Output) → numbered g.outputs n ≡ Some o →
+      (g : GraphTree) (trace : List Message) → CanRun g trace → (s : Serial) (r : RunState) → Interleaves g trace s r →
+      (b : ActiveJob) (due : ℕ) → due ≤ b.message.time + period_of g (port_at g b.job.task) → (n : ℕ) (o : Output) → numbered g.outputs n ≡ Some o →
       wait_from due (messages_to (with_end g b r).outputs n) ≡ wait_from due (messages_to r.outputs n) ++ brought b.job.task (passes_of g b) (Out o.port o.out)
   -- of the messages that wait from a tick on, those of the tick come first; of a port at most one
   pub port_comes :
-      (g : GraphTree) (trace : List Message) → CanRun g trace → (s : Serial) (r : Moment) → Interleaves g trace s r →
+      (g : GraphTree) (trace : List Message) → CanRun g trace → (s : Serial) (r : RunState) → Interleaves g trace s r →
       (port t : ℕ) → wait_from t (known_at r port) ≡ come_at t (known_at r port) ++ wait_from (suc t) (known_at r port)
   pub port_one :
-      (g : GraphTree) (trace : List Message) → CanRun g trace → (s : Serial) (r : Moment) → Interleaves g trace s r →
+      (g : GraphTree) (trace : List Message) → CanRun g trace → (s : Serial) (r : RunState) → Interleaves g trace s r →
       (port t : ℕ) → length (come_at t (known_at r port)) ≤ 1
   pub output_comes :
-      (g : GraphTree) (trace : List Message) → CanRun g trace → (s : Serial) (r : Moment) → Interleaves g trace s r →
+      (g : GraphTree) (trace : List Message) → CanRun g trace → (s : Serial) (r : RunState) → Interleaves g trace s r →
       (n t : ℕ) → wait_from t (messages_to r.outputs n) ≡ come_at t (messages_to r.outputs n) ++ wait_from (suc t) (messages_to r.outputs n)
   -- when a later job's message has come, what a job passed on before the last one that passed has come too: so the messages of an out
   -- that wait while a job of its port is under way come of one job at most
   pub old_come :
-      (g : GraphTree) (trace : List Message) → CanRun g trace → (s : Serial) (r : Moment) → Interleaves g trace s r →
+      (g : GraphTree) (trace : List Message) → CanRun g trace → (s : Serial) (r : RunState) → Interleaves g trace s r →
       (port n earlier last j : ℕ) (p : PortTree) (m first : PortMessage) (out : ℕ) → numbered g.ports port ≡ Some p →
       numbered (messages_at s port) n ≡ Some m → numbered (messages_at s port) earlier ≡ Some first → 1 ≤ out → out ≤ length p.outs →
       earlier % every_of p out ≡ 0 → last % every_of p out ≡ 0 → earlier < last → last < n → j < greatest_sends p out →

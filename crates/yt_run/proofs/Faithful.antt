@@ -4,13 +4,13 @@ use Rattle.yt_graph.specs.Picture.{GraphTree}
 use Rattle.yt_log.specs.Ticks.{Ticks}
 use Rattle.yt_serial.specs.declared.shown.OutLine.{OutLine}
 use Rattle.yt_serial.specs.declared.trace.Message.{Message}
-use Rattle.yt_serial.specs.Judged.{IsJudgedRun, IsRunnable}
+use Rattle.yt_serial.specs.Judged.{IsJudgedRun, IsSchedulable}
 use Rattle.yt_serial.specs.Told.{IsPromisedRun}
 use Rattle.yt_serial.proofs.Lemmas.{judged, runs_are_judged}
 use Rattle.yt_run.specs.Laws.{IsFaithful, FaithfulTexts}
 use Rattle.yt_run.specs.RunText.{ReadBack, read_back, run_text}
 
-own : (g : GraphTree) (trace : List Message) → IsRunnable g trace → (text : List ℕ) → IsFaithful g trace text → (log : Ticks) (lines : List OutLine) → IsPromisedRun g trace log lines
+own : (g : GraphTree) (trace : List Message) → IsSchedulable g trace → (text : List ℕ) → IsFaithful g trace text → (log : Ticks) (lines : List OutLine) → IsPromisedRun g trace log lines
     → text ≡ run_text g log lines
 own g trace able text is log lines promised =
     let told = read_back g text in

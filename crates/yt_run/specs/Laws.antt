@@ -4,7 +4,7 @@ use Rattle.yt_graph.specs.Picture.{GraphTree}
 use Rattle.yt_log.specs.Ticks.{Ticks}
 use Rattle.yt_serial.specs.declared.shown.OutLine.{OutLine}
 use Rattle.yt_serial.specs.declared.trace.Message.{Message}
-use Rattle.yt_serial.specs.Judged.{IsJudgedRun, IsRunnable}
+use Rattle.yt_serial.specs.Judged.{IsJudgedRun, IsSchedulable}
 use Rattle.yt_serial.specs.Told.{IsPromisedRun}
 use Rattle.yt_run.specs.RunText.{read_back, run_text}
 
@@ -16,7 +16,7 @@ pub record IsFaithful (g : GraphTree) (trace : List Message) (text : List ℕ) :
 -- a faithful text is that of each promised run, so there is one; and the text of a promised run that can be read back is faithful
 pub record FaithfulTexts : Type 0 where
   pub own :
-      (g : GraphTree) (trace : List Message) → IsRunnable g trace → (text : List ℕ) → IsFaithful g trace text →
+      (g : GraphTree) (trace : List Message) → IsSchedulable g trace → (text : List ℕ) → IsFaithful g trace text →
       (log : Ticks) (lines : List OutLine) → IsPromisedRun g trace log lines → text ≡ run_text g log lines
   pub kept :
       (g : GraphTree) (trace : List Message) (log : Ticks) (lines : List OutLine) → IsPromisedRun g trace log lines →

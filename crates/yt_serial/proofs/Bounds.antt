@@ -29,7 +29,7 @@ use Rattle.yt_serial.proofs.SerialInvariant.{Holds}
 use Rattle.yt_serial.proofs.SerialStates.{placed_at, BringsOf, brings, message_there}
 use Rattle.yt_serial.proofs.SerialRuns.{stepped, holds_stepped, serial_holds, inputs_stay}
 use Rattle.yt_serial.proofs.SerialLines.{lines_append, all_at}
-use Rattle.yt_serial.specs.Bounds.{passed_most, most_within, most_at, MessagesAreBounded}
+use Rattle.yt_serial.specs.Bounds.{greatest_passed, most_messages_within, most_messages, MessagesAreBounded}
 use Rattle.yt_serial.specs.Laws.{CanRun}
 use Rattle.yt_serial.specs.Lines.{lines_of}
 
@@ -111,9 +111,9 @@ numbered_within ms (suc n) m e = let k = slice_get_within ms n m e in omega arit
 pub record IsBounded (g : GraphTree) (s : Serial) : Type 0 where
   pub handled : (port : ℕ) → handled_of s port ≤ length (messages_at s port)
   pub ports : (k : ℕ) (p : PortTree) (from out : ℕ) (q : PortTree) → slice_get g.ports k ≡ Some p → p.feed ≡ Out from out → numbered g.ports from ≡ Some q →
-      length (messages_at s (suc k)) ≤ passed_most q out (handled_of s from)
+      length (messages_at s (suc k)) ≤ greatest_passed q out (handled_of s from)
   pub outputs : (k : ℕ) (o : Output) (q : PortTree) → slice_get g.outputs k ≡ Some o → numbered g.ports o.port ≡ Some q →
-      length (lines_of (suc k) s.lines) ≤ passed_most q o.out (handled_of s o.port)
+      length (lines_of (suc k) s.lines) ≤ greatest_passed q o.out (handled_of s o.port)
 
 module _ (g : GraphTree) (trace : List Message) (can : CanRun g trace) where
   module _ (job : Job) (s : Serial) (holds : Holds g s) (m : PortMessage) (next : message_of job s ≡ Some m) (bounded : IsBounded g s) where
@@ -142,8 +142,8 @@ module _ (g : GraphTree) (trace : List Message) (can : CanRun g trace) where
         (cases_eq job.task port)
 
     -- what a feed gets of the job fits
-    feed_fits : (from out : ℕ) (q : PortTree) → numbered g.ports from ≡ Some q → (old : ℕ) → old ≤ passed_most q out (handled_of s from)
-        → old + length (brought job.task passes (Out from out)) ≤ passed_most q out (handled_of (handle_message g job m s) from)
+    feed_fits : (from out : ℕ) (q : PortTree) → numbered g.ports from ≡ Some q → (old : ℕ) → old ≤ greatest_passed q out (handled_of s from)
+        → old + length (brought job.task passes (Out from out)) ≤ greatest_passed q out (handled_of (handle_message g job m s) from)
     feed_fits from out q at_q old le =
         let every = every_of q out in
         let k = greatest_sends q out in
@@ -255,29 +255,29 @@ module _ (g : GraphTree) (trace : List Message) (can : CanRun g trace) where
     handled_le : (port : ℕ) → handled_of s port ≤ length (messages_at s port)
     handled_le = bounded.handled
 
-    passed_more : (from out : ℕ) (q : PortTree) → numbered g.ports from ≡ Some q → (a b : ℕ) → a ≤ b → passed_most q out a ≤ passed_most q out b
+    passed_more : (from out : ℕ) (q : PortTree) → numbered g.ports from ≡ Some q → (a b : ℕ) → a ≤ b → greatest_passed q out a ≤ greatest_passed q out b
     passed_more from out q at_q a b le =
         let more = div_le a b (every_of q out) (every_some g can.well_formed from out q at_q) le in
         mul-le (a / every_of q out) (greatest_sends q out) (b / every_of q out) (greatest_sends q out) more (omega arith)
 
     -- by what the port's source has
     by_source : (n k : ℕ) (p : PortTree) (from out : ℕ) → slice_get g.ports k ≡ Some p → p.feed ≡ Out from out → (a : ℕ) → from ≡ suc a → (o : Option PortTree) → slice_get g.ports a ≡ o
-        → IsSomeAnd o (λ q. EndsWithin g n q.feed) → ((q : PortTree) → numbered g.ports from ≡ Some q → EndsWithin g n q.feed → length (messages_at s from) ≤ most_within g trace n q.feed)
-        → length (messages_at s (suc k)) ≤ most_within g trace (suc n) (Out from out)
+        → IsSomeAnd o (λ q. EndsWithin g n q.feed) → ((q : PortTree) → numbered g.ports from ≡ Some q → EndsWithin g n q.feed → length (messages_at s from) ≤ most_messages_within g trace n q.feed)
+        → length (messages_at s (suc k)) ≤ most_messages_within g trace (suc n) (Out from out)
     by_source n k p from out there fed a is None e ends source = absurd ends
     by_source n k p from out there fed a is (Some q) e ends source =
         let at_q : numbered g.ports from ≡ Some q = ap (numbered g.ports) is ∙ e in
         let place : from - 1 ≡ a = omega arith in
-        let here : most_within g trace (suc n) (Out from out) ≡ passed_most q out (most_within g trace n q.feed) =
-        ap (λ (o : Option PortTree). unwrap_or (option_map (λ (p : PortTree). passed_most p out (most_within g trace n p.feed)) o) 0) (ap (slice_get g.ports) place ∙ e) in
+        let here : most_messages_within g trace (suc n) (Out from out) ≡ greatest_passed q out (most_messages_within g trace n q.feed) =
+        ap (λ (o : Option PortTree). unwrap_or (option_map (λ (p : PortTree). greatest_passed p out (most_messages_within g trace n p.feed)) o) 0) (ap (slice_get g.ports) place ∙ e) in
         let most = source q at_q ends in
         let count = handled_le from in
         let mine = bounded.ports k p from out q there fed at_q in
-        let more = passed_more from out q at_q (handled_of s from) (most_within g trace n q.feed) (omega arith) in
+        let more = passed_more from out q at_q (handled_of s from) (most_messages_within g trace n q.feed) (omega arith) in
         omega arith
 
     -- a port has no more messages than its chain of sources allows
-    most_le : (n port : ℕ) (p : PortTree) (f : Feed) → numbered g.ports port ≡ Some p → p.feed ≡ f → EndsWithin g n f → length (messages_at s port) ≤ most_within g trace n f
+    most_le : (n port : ℕ) (p : PortTree) (f : Feed) → numbered g.ports port ≡ Some p → p.feed ≡ f → EndsWithin g n f → length (messages_at s port) ≤ most_messages_within g trace n f
     most_le n zero p f there fed ends = absurd (none-some p there)
     most_le n (suc k) p (feed.TheVariants.Input i) there fed ends =
         let e : messages_at s (suc k) ≡ messages_of i trace = inputs_stay g trace can order (start g trace) s first_holds along k p i there fed ∙ first_at k p there ∙ ap (from_outside trace) fed in
@@ -287,20 +287,20 @@ module _ (g : GraphTree) (trace : List Message) (can : CanRun g trace) where
     most_le (suc n) (suc k) p (feed.TheVariants.Out from out) there fed ends =
         by_source n k p from out there fed ends.0 ends.1 (slice_get g.ports ends.0) refl ends.2 (λ q at_q e. most_le n from q q.feed at_q refl e)
 
-    port_most : (port : ℕ) (p : PortTree) → numbered g.ports port ≡ Some p → length (messages_at s port) ≤ most_at g trace p
+    port_most : (port : ℕ) (p : PortTree) → numbered g.ports port ≡ Some p → length (messages_at s port) ≤ most_messages g trace p
     port_most zero p there = absurd (none-some p there)
     port_most (suc k) p there =
         let e : get_or g.ports k p ≡ p = get_or_from_slice_get g.ports k p p there in
         let fine : IsFinePort g p = subst (IsFinePort g) e (can.well_formed.each_port k p (slice_get_within g.ports k p there)) in
         most_le (length g.ports) (suc k) p p.feed there refl fine.3
 
-    output_most : (n : ℕ) (o : Output) (p : PortTree) → numbered g.outputs n ≡ Some o → numbered g.ports o.port ≡ Some p → length (lines_of n s.lines) ≤ passed_most p o.out (most_at g trace p)
+    output_most : (n : ℕ) (o : Output) (p : PortTree) → numbered g.outputs n ≡ Some o → numbered g.ports o.port ≡ Some p → length (lines_of n s.lines) ≤ greatest_passed p o.out (most_messages g trace p)
     output_most zero o p there at_p = absurd (none-some o there)
     output_most (suc k) o p there at_p =
         let mine = bounded.outputs k o p there at_p in
         let count = handled_le o.port in
         let most = port_most o.port p at_p in
-        let more = passed_more o.port o.out p at_p (handled_of s o.port) (most_at g trace p) (omega arith) in
+        let more = passed_more o.port o.out p at_p (handled_of s o.port) (most_messages g trace p) (omega arith) in
         omega arith
 
 pub messages_are_bounded : MessagesAreBounded

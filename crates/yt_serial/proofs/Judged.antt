@@ -20,7 +20,7 @@ use Rattle.yt_rates.specs.Tables.{tasks_of}
 use Rattle.yt_serial.specs.declared.shown.OutLine.{OutLine}
 use Rattle.yt_serial.specs.declared.trace.Message.{Message}
 use Rattle.yt_serial.specs.Beginnings.{begun_below, nth_job, order_of}
-use Rattle.yt_serial.specs.Judged.{IsJudgedRun, IsRunnable, RunsAreJudged}
+use Rattle.yt_serial.specs.Judged.{IsJudgedRun, IsSchedulable, RunsAreJudged}
 use Rattle.yt_serial.specs.PortMessages.{PortMessage, numbered}
 use Rattle.yt_serial.specs.SerialHandling.{Serial, messages_at, items_of, handled_of, start, serial_step, serial_run, plan_of_log}
 use Rattle.yt_serial.specs.Told.{BeginsInOrder, IsPromisedRun, NoneReplaced}
@@ -38,7 +38,7 @@ number_some : (ms : List PortMessage) (n : ℕ) (m : PortMessage) → numbered m
 number_some ms zero m h = absurd (none-some m h)
 number_some ms (suc n) m h = omega arith
 
-module _ (g : GraphTree) (trace : List Message) (able : IsRunnable g trace) (log : Ticks) (lines : List OutLine) (is : IsJudgedRun g trace log lines) where
+module _ (g : GraphTree) (trace : List Message) (able : IsSchedulable g trace) (log : Ticks) (lines : List OutLine) (is : IsJudgedRun g trace log lines) where
   abbrev plan : List PlanItem
   plan = plan_of_log g trace log
 

@@ -15,26 +15,26 @@ use Rattle.yt_serial.specs.Laws.{CanRun}
 use Rattle.yt_serial.specs.Lines.{lines_of}
 
 -- the most messages that an out passes on for so many messages at its port
-abbrev pub passed_most : PortTree → ℕ → ℕ → ℕ
-passed_most port out messages = messages / every_of port out * greatest_sends port out
+abbrev pub greatest_passed : PortTree → ℕ → ℕ → ℕ
+greatest_passed port out messages = messages / every_of port out * greatest_sends port out
 
 -- the most messages of a feed whose chain of sources has at most so many ports
-abbrev pub most_within : GraphTree → List Message → ℕ → Feed → ℕ
-most_within g trace n (feed.TheVariants.Input input) = length (messages_of input trace)
-most_within g trace zero (feed.TheVariants.Out port out) = 0
-most_within g trace (suc n) (feed.TheVariants.Out port out) =
-    unwrap_or (option_map (λ p. passed_most p out (most_within g trace n p.feed)) (slice_get g.ports (port - 1))) 0
+abbrev pub most_messages_within : GraphTree → List Message → ℕ → Feed → ℕ
+most_messages_within g trace n (feed.TheVariants.Input input) = length (messages_of input trace)
+most_messages_within g trace zero (feed.TheVariants.Out port out) = 0
+most_messages_within g trace (suc n) (feed.TheVariants.Out port out) =
+    unwrap_or (option_map (λ p. greatest_passed p out (most_messages_within g trace n p.feed)) (slice_get g.ports (port - 1))) 0
 
 -- the most messages at a port
-abbrev pub most_at : GraphTree → List Message → PortTree → ℕ
-most_at g trace port = most_within g trace (length g.ports) port.feed
+abbrev pub most_messages : GraphTree → List Message → PortTree → ℕ
+most_messages g trace port = most_messages_within g trace (length g.ports) port.feed
 
 -- each port handles at most so many messages, and each output shows at most so many
 pub record MessagesAreBounded : Type 0 where
   pub ports :
       (g : GraphTree) (trace : List Message) → CanRun g trace → (order : List Job) (s : Serial) → serial_run g order (start g trace) ≡ Some s →
-      (port : ℕ) (p : PortTree) → numbered g.ports port ≡ Some p → (handled_of s port ≤ length (messages_at s port)) × (length (messages_at s port) ≤ most_at g trace p)
+      (port : ℕ) (p : PortTree) → numbered g.ports port ≡ Some p → (handled_of s port ≤ length (messages_at s port)) × (length (messages_at s port) ≤ most_messages g trace p)
   pub outputs :
       (g : GraphTree) (trace : List Message) → CanRun g trace → (order : List Job) (s : Serial) → serial_run g order (start g trace) ≡ Some s →
       (n : ℕ) (o : Output) (p : PortTree) → numbered g.outputs n ≡ Some o → numbered g.ports o.port ≡ Some p →
-      length (lines_of n s.lines) ≤ passed_most p o.out (most_at g trace p)
+      length (lines_of n s.lines) ≤ greatest_passed p o.out (most_messages g trace p)

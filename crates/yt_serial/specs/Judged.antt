@@ -28,14 +28,14 @@ pub record IsJudgedRun (graph : GraphTree) (trace : List Message) (log : Ticks) 
   pub ends : length log ≡ max (busy_until log (length log)) (latest lines)
 
 -- a graph and a trace that can be run, where the rule's logs keep the deadlines of the graph's tasks
-pub record IsRunnable (g : GraphTree) (trace : List Message) : Type 0 where
+pub record IsSchedulable (g : GraphTree) (trace : List Message) : Type 0 where
   pub can : CanRun g trace
   pub keeps : RuleKeeps (tasks_of g)
 
 -- this is all: a log and lines that satisfy it keep every promise of a run; and there is one such log with its lines
 pub record RunsAreJudged : Type 0 where
   pub exact :
-      (g : GraphTree) (trace : List Message) → IsRunnable g trace → (log : Ticks) (lines : List OutLine) →
+      (g : GraphTree) (trace : List Message) → IsSchedulable g trace → (log : Ticks) (lines : List OutLine) →
       IsJudgedRun g trace log lines ↔ IsPromisedRun g trace log lines
   pub one :
       (g : GraphTree) (trace : List Message) → CanRun g trace → (a b : Ticks) (lines more : List OutLine) →
