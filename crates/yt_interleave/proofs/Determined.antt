@@ -1,26 +1,30 @@
 -- A run as far as it has come is the start of each promised run.
-use Rattle.std.proofs.Common.{◌≡◌, ℕ, zero, suc, ◌+◌, ◌<◌, ◌≤◌, eqb, List, [], ◌∷◌, ◌++◌, length, drop, slice_get, Option, None, Some, refl, sym, ap, subst, ◌∙◌, ⊎_elim, arith, eq-eqb}
+use Rattle.std.proofs.Common.{◌≡◌, ℕ, zero, suc, ◌+◌, ◌-◌, ◌<◌, ◌≤◌, eqb, List, [], ◌∷◌, ◌++◌, length, drop, slice_get, Option, None, Some, refl, sym, ap, subst, ◌∙◌, ⊎_elim, arith, eq-eqb}
 use Rattle.std.specs.Option.{unwrap_or}
-use Rattle.std.proofs.lemmas.Bool.{cond-true}
-use Rattle.std.proofs.lemmas.Option.{none-some}
+use Rattle.std.proofs.lemmas.Bool.{cases_lt, cond-true}
+use Rattle.std.proofs.lemmas.Option.{none-some, same_Some}
 use Rattle.yt_graph.specs.declared.port.Feed.{Feed}
 use Rattle.yt_graph.specs.declared.port.Feed.TheVariants.{Input, Out}
 use Rattle.yt_graph.specs.Picture.{GraphTree, PortTree}
 use Rattle.yt_log.specs.declared.job.Job.{Job}
 use Rattle.yt_log.specs.declared.plan.PlanItem.{PlanItem}
-use Rattle.yt_log.specs.Ticks.{Ticks, tick}
+use Rattle.yt_graph.specs.declared.handled.Write.{Write}
+use Rattle.yt_log.specs.Tasks.{Has}
+use Rattle.yt_log.specs.Ticks.{Ticks, tick, done}
+use Rattle.yt_log.proofs.Ticks.{done_grows}
 use Rattle.yt_serial.specs.declared.shown.OutLine.{OutLine}
 use Rattle.yt_serial.specs.declared.trace.Message.{Message}
 use Rattle.yt_serial.specs.Judged.{IsSchedulable}
 use Rattle.yt_serial.specs.PortMessages.{PortMessage, numbered}
-use Rattle.yt_serial.specs.SerialHandling.{Serial, messages_at, brought, start, plan_of_log, handled_along}
+use Rattle.yt_serial.specs.Beginnings.{order_of}
+use Rattle.yt_serial.specs.SerialHandling.{Serial, messages_at, items_of, brought, start, serial_run, plan_of_log, handled_along}
 use Rattle.yt_serial.specs.Told.{IsPromisedRun}
-use Rattle.yt_serial.specs.Variables.{variables_at}
-use Rattle.yt_log.proofs.Made.{Agree}
-use Rattle.yt_serial.proofs.Lemmas.{IsRuleRun, agree_to, feed_cases, get_cases, placed_at, port_there, promised_is}
+use Rattle.yt_serial.specs.Variables.{after_writes, variables_at, writes_below}
+use Rattle.yt_log.proofs.Made.{Agree, done_same}
+use Rattle.yt_serial.proofs.Lemmas.{IsRuleRun, agree_to, feed_cases, get_cases, placed_at, port_there, promised_is, at_tick, begun_same, in_plan, no_more, serial_holds, variables_stay, writes_below_same, writes_idle}
 use Rattle.yt_interleave.specs.Interleaved as own
 use Rattle.yt_interleave.specs.Interleaved.{ActiveJob, passes_of}
-use Rattle.yt_interleave.specs.Runs.{IsRunning, StartsWith, RunsAgree}
+use Rattle.yt_interleave.specs.Runs.{IsRunning, AgreesWith, RunsAgree}
 use Rattle.yt_interleave.proofs.Over.{variables_are_written}
 use Rattle.yt_interleave.proofs.Whole as whole
 use Rattle.yt_interleave.proofs.Timing as timing
@@ -85,18 +89,67 @@ module _ (g : GraphTree) (trace : List Message) (able : IsSchedulable g trace) (
     all = λ port n m there lt. is.goes.all port n m (known_now port n m there lt) (omega arith);
   }
 
-  starts_with : (log : Ticks) (lines : List OutLine) → IsPromisedRun g trace log lines → length r.log ≤ length log → StartsWith g trace r log
-  starts_with log lines p le =
+  -- where the promised run is no shorter, the log goes on in it
+  longer : (log : Ticks) (lines : List OutLine) → IsPromisedRun g trace log lines → length r.log ≤ length log → (rest : Ticks) × (log ≡ r.log ++ rest)
+  longer log lines p le =
       let agree = agree_to g trace able.can r.log log s p.tells.serial plan (plan_of_log g trace log) running_is (promised_is g trace able.can log lines p) (length r.log) (omega arith) le in
-      let rest = drop (length r.log) log in
-      let e : log ≡ r.log ++ rest = prefix_is r.log log le agree in
-      record {
-        rest = rest;
-        log = e;
-        variables = λ whole along.
-            subst (λ (l : Ticks). variables_at (start g trace).vars whole.handled l (length r.log) ≡ r.vars) (sym e)
-            (variables_are_written g trace able.can s r is.interleaves rest whole (ap (λ (l : Ticks). handled_along g trace l) (sym e) ∙ along));
-      }
+      (drop (length r.log) log, prefix_is r.log log le agree)
+
+  -- where it is shorter, no job had a tick after its end
+  module _ (log : Ticks) (lines : List OutLine) (p : IsPromisedRun g trace log lines) (lt : length log < length r.log) where
+    agree : Agree r.log log (length log)
+    agree = agree_to g trace able.can r.log log s p.tells.serial plan (plan_of_log g trace log) running_is (promised_is g trace able.can log lines p) (length log) (omega arith) (omega arith)
+
+    same_serial : p.tells.serial ≡ s
+    same_serial =
+        let x = at_tick g trace able.can r.log s is.interleaves.stands.along (length log) (omega arith) in
+        let now : x.now ≡ p.tells.serial =
+        same_Some x.now p.tells.serial (sym x.along ∙ ap (λ (o : List Job). serial_run g o (start g trace)) (begun_same r.log log (length log) agree) ∙ p.tells.along) in
+        let holds = serial_holds g able.can.well_formed able.can.rates trace able.can.keeps (order_of log) p.tells.serial p.tells.along in
+        no_more g trace able.can p.tells.serial holds p.tells.all x.later s (subst (λ (u : Serial). serial_run g x.later u ≡ Some s) now x.rest)
+
+    idle_after : (u : ℕ) → length log ≤ u → tick r.log u ≡ None
+    idle_after u past = by (tick r.log u) refl
+      where
+        by : (o : Option Job) → tick r.log u ≡ o → tick r.log u ≡ None
+        by None e = e
+        by (Some j) e =
+            let l = is.interleaves.stands.lawful u j e in
+            let z = l.0 in
+            let inside : Has (items_of p.tells.serial) z = subst (λ (t : Serial). Has (items_of t) z) (sym same_serial) l.1 in
+            let fin = p.tells.finished z (in_plan g trace able.can log p.tells.serial p.tells.along z inside) in
+            let d = done_same r.log log z.job (length log) agree in
+            let grows = done_grows r.log z.job (length log) u past in
+            let same : done r.log z.job u ≡ done r.log j u = ap (λ (k : Job). done r.log k u) l.2 in
+            let un = l.3.unfinished in
+            absurd (omega arith)
+
+    same_writes : writes_below s.handled r.log (length r.log) ≡ writes_below s.handled log (length log)
+    same_writes =
+        let e : length r.log ≡ length log + (length r.log - length log) = omega arith in
+        ap (writes_below s.handled r.log) e
+        ∙ writes_idle s.handled r.log (length log) (length r.log - length log) idle_after
+        ∙ writes_below_same s.handled r.log log (length log) agree
+
+    past_end : (w : Serial) → handled_along g trace log ≡ Some w → variables_at (start g trace).vars w.handled log (length r.log) ≡ r.vars
+    past_end w along =
+        let same : w ≡ s = same_Some w p.tells.serial (sym along ∙ p.tells.along) ∙ same_serial in
+        variables_stay (start g trace).vars w.handled log (length r.log) (omega arith)
+        ∙ ap (λ (t : Serial). variables_at (start g trace).vars t.handled log (length log)) same
+        ∙ ap (λ (ws : List Write). after_writes ws (start g trace).vars) (sym same_writes)
+        ∙ sym is.interleaves.stands.written
+
+  agrees_with : (log : Ticks) (lines : List OutLine) → IsPromisedRun g trace log lines → AgreesWith g trace r log
+  agrees_with log lines p = record {
+    goes_on = longer log lines p;
+    variables = λ w along. ⊎_elim
+        (λ (lt : length log < length r.log). past_end log lines p lt w along)
+        (λ (ge : length r.log ≤ length log).
+        let more = longer log lines p ge in
+        subst (λ (l : Ticks). variables_at (start g trace).vars w.handled l (length r.log) ≡ r.vars) (sym more.1)
+        (variables_are_written g trace able.can s r is.interleaves more.0 w (ap (λ (l : Ticks). handled_along g trace l) (sym more.1) ∙ along)))
+        (cases_lt (length log) (length r.log));
+  }
 
 pub runs_agree : RunsAgree
-runs_agree g trace able s r due plan shown is low log lines p le = starts_with g trace able s r due plan shown is low log lines p le
+runs_agree g trace able s r due plan shown is low log lines p = agrees_with g trace able s r due plan shown is low log lines p

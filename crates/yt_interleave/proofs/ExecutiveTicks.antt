@@ -1,5 +1,5 @@
 -- A tick of an executive is one of the run that it stands for.
-use Rattle.std.proofs.Common.{◌≡◌, ℕ, suc, ◌+◌, ◌<◌, ◌≤◌, Bool, true, false, eqb, List, [], ◌∷◌, ◌++◌, length, None, Some, sym, ap, subst, ◌∙◌, ⊎_elim, arith, eq-eqb, ne_eqb}
+use Rattle.std.proofs.Common.{◌≡◌, ℕ, suc, ◌+◌, ◌<◌, ◌≤◌, Bool, true, eqb, List, [], ◌∷◌, ◌++◌, length, None, Some, sym, ap, subst, ◌∙◌, ⊎_elim, arith, eq-eqb, ne_eqb}
 use Rattle.std.specs.List.{Contains}
 use Rattle.std.proofs.lemmas.Bool.{cases_lt, cond-true, cond-false}
 use Rattle.yt_graph.specs.Picture.{GraphTree}
@@ -19,13 +19,13 @@ use Rattle.yt_serial.specs.declared.shown.OutLine.{OutLine}
 use Rattle.yt_serial.specs.declared.trace.Message.{Message}
 use Rattle.yt_serial.specs.PortMessages.{PortMessage}
 use Rattle.yt_serial.specs.SerialHandling.{Serial, handle_message}
-use Rattle.yt_interleave.specs.Executives.{HasLeft, StillStandsFor, ExecutivesTick}
+use Rattle.yt_interleave.specs.Executives.{HasLeft, GivesFirstTick, StillStandsFor, ExecutivesTick}
 use Rattle.yt_interleave.specs.Interleaved as own
 use Rattle.yt_interleave.specs.Interleaved.{ActiveJob, whole_of, with_begun, with_idle}
-use Rattle.yt_interleave.specs.Moves.{after_tick, active_job}
+use Rattle.yt_interleave.specs.Moves.{MayBegin, after_tick, active_job}
 use Rattle.yt_serial.specs.Judged.{IsSchedulable}
 use Rattle.yt_interleave.specs.Runs.{IsRunning}
-use Rattle.yt_interleave.specs.Timing.{WaitsToBegin, IsRuleLog}
+use Rattle.yt_interleave.specs.Timing.{IsRuleLog}
 use Rattle.yt_interleave.proofs.Executives.{executives_follow}
 use Rattle.yt_interleave.proofs.NextJobs.{next_job}
 use Rattle.yt_interleave.proofs.Whole.{grows, runs_go_on, runs_are_on_time}
@@ -34,44 +34,63 @@ use Rattle.yt_interleave.proofs.Whole.{grows, runs_go_on, runs_are_on_time}
 legal_run : (g : GraphTree) (tasks : List Task) (plan : List PlanItem) (log : Ticks) → tasks ≡ tasks_of g → IsLegal tasks plan → IsEdfDdm tasks plan log → IsRuleLog g plan log
 legal_run g tasks plan log e legal rule = record { legal = subst (λ (ts : List Task). IsLegal ts plan) e legal; rule = subst (λ (ts : List Task). IsEdfDdm ts plan log) e rule }
 
-begins : (g : GraphTree) (trace : List Message) → IsSchedulable g trace → (s : Serial) (r : own.RunState) (plan : List PlanItem) (lines : List OutLine)
-    → IsRunning g trace s r (suc (length r.log)) plan lines → (old new : Moment) (left left' : Job → ℕ) → old.tasks ≡ tasks_of g → new.tasks ≡ old.tasks → StandsFor old left plan r.log → HasLeft g r left
-    → (entry : Entry) → Contains old.entries entry → entry.begun ≡ false → (ended : Bool) → GoesOnTo old new left left' (Ran (job_in entry) ended)
-    → (m : PortMessage) → WaitsToBegin r (job_in entry) m → HasLeft g (after_tick g (active_job (job_in entry) m s) (with_begun (job_in entry) m s.vars r)) left'
-    → StillStandsFor g trace (handle_message g (job_in entry) m s) (after_tick g (active_job (job_in entry) m s) (with_begun (job_in entry) m s.vars r)) (suc (length r.log))
-    (plan_after left left' (Ran (job_in entry) ended) plan) lines new left'
-begins g trace able s r plan lines is old new left left' tasks kept stands has entry there fresh ended goes m pending has' =
-    let job = job_in entry in
-    let b = active_job job m s in
-    let r1 = with_begun job m s.vars r in
-    let r2 = after_tick g b r1 in
-    let plan2 = plan_after left left' (Ran job ended) plan in
-    let none : left job ≡ 0 =
-    ⊎_elim
-    (λ (lt : 0 < left job).
-    let a = has.only job lt in
-    let begun = is.interleaves.begun job.task a.0 a.1 in
-    let same : done r.log a.0.job (length r.log) ≡ done r.log job (length r.log) = ap (λ (j : Job). done r.log j (length r.log)) a.2 in
-    let zero_done = pending.fresh in
-    absurd (omega arith))
-    (λ (ge : left job ≤ 0). omega arith)
-    (cases_lt 0 (left job)) in
-    let plan_is : plan2 ≡ with_cost job (left' job + 1) plan = cond-true (eqb (left job) 0) (with_cost job (left' job + 1) plan) plan (eq-eqb (left job) 0 none) in
-    let on = goes plan r.log (subst (λ (ts : List Task). IsLegal ts plan) (sym tasks) is.by.legal) stands in
-    let now : new.tasks ≡ tasks_of g = kept ∙ tasks in
-    let rule = on.rule (subst (λ (ts : List Task). IsEdfDdm ts plan r.log) (sym now) is.by.rule) in
-    let by : IsRuleLog g plan2 (r.log ++ Some job ∷ []) = legal_run g new.tasks plan2 (r.log ++ Some job ∷ []) now on.legal rule in
-    let timely = runs_are_on_time.on_time g trace able s r (suc (length r.log)) plan lines is (omega arith) in
-    let free = runs_are_on_time.free g trace able s r (suc (length r.log)) plan lines is job m pending (left' job + 1) (subst (λ (p : List PlanItem). IsRuleLog g p (r.log ++ Some job ∷ [])) plan_is by) in
-    let may = runs_are_on_time.may_begin g trace able s r is.interleaves timely job m pending free in
-    let cost : left' job + 1 ≡ (whole_of g b).ticks = executives_follow.cost g trace able s r job m may pending.fresh left' has' in
-    let same : plan2 ≡ with_cost job (whole_of g b).ticks plan = plan_is ∙ ap (λ (c : ℕ). with_cost job c plan) cost in
-    let next = runs_go_on.begins g trace able s r plan lines is job m pending (subst (λ (p : List PlanItem). IsRuleLog g p (r.log ++ Some job ∷ [])) same by) in
-    let log : r2.log ≡ r.log ++ Some job ∷ [] = grows g b r1 in
-    record {
-      running = subst (λ (p : List PlanItem). IsRunning g trace (handle_message g job m s) r2 (suc (length r.log)) p lines) (sym same) next;
-      stands = subst (StandsFor new left' plan2) (sym log) on.stands;
-    }
+module _ (g : GraphTree) (trace : List Message) (able : IsSchedulable g trace) (s : Serial) (r : own.RunState) (plan : List PlanItem) (lines : List OutLine)
+    (old new : Moment) (left left' : Job → ℕ) (entry : Entry) (ended : Bool) (m : PortMessage) (gives : GivesFirstTick g trace s r plan lines old new left left' entry ended m) where
+  abbrev job : Job
+  job = job_in entry
+
+  abbrev plan2 : List PlanItem
+  plan2 = plan_after left left' (Ran (job_in entry) ended) plan
+
+  -- no tick was left of it
+  none_left : left (job_in entry) ≡ 0
+  none_left =
+      ⊎_elim
+      (λ (lt : 0 < left (job_in entry)).
+      let a = gives.left_of.only (job_in entry) lt in
+      let begun = gives.running.interleaves.begun (job_in entry).task a.0 a.1 in
+      let same : done r.log a.0.job (length r.log) ≡ done r.log (job_in entry) (length r.log) = ap (λ (j : Job). done r.log j (length r.log)) a.2 in
+      let zero_done = gives.waits.fresh in
+      absurd (omega arith))
+      (λ (ge : left (job_in entry) ≤ 0). omega arith)
+      (cases_lt 0 (left (job_in entry)))
+
+  plan_is : plan2 ≡ with_cost (job_in entry) (left' (job_in entry) + 1) plan
+  plan_is = cond-true (eqb (left (job_in entry)) 0) (with_cost (job_in entry) (left' (job_in entry) + 1) plan) plan (eq-eqb (left (job_in entry)) 0 none_left)
+
+  now : new.tasks ≡ tasks_of g
+  now = gives.kept ∙ gives.executes.tasks
+
+  stands_on : StandsFor new left' plan2 (r.log ++ Some (job_in entry) ∷ [])
+  stands_on = (gives.goes plan r.log (subst (λ (ts : List Task). IsLegal ts plan) (sym gives.executes.tasks) gives.running.by.legal) gives.executes.stands).stands
+
+  by : IsRuleLog g plan2 (r.log ++ Some (job_in entry) ∷ [])
+  by =
+      let on = gives.goes plan r.log (subst (λ (ts : List Task). IsLegal ts plan) (sym gives.executes.tasks) gives.running.by.legal) gives.executes.stands in
+      let rule = on.rule (subst (λ (ts : List Task). IsEdfDdm ts plan r.log) (sym now) gives.running.by.rule) in
+      legal_run g new.tasks plan2 (r.log ++ Some (job_in entry) ∷ []) now on.legal rule
+
+  may : MayBegin g s r (job_in entry) m
+  may =
+      let timely = runs_are_on_time.on_time g trace able s r (suc (length r.log)) plan lines gives.running (omega arith) in
+      let free = runs_are_on_time.free g trace able s r (suc (length r.log)) plan lines gives.running (job_in entry) m gives.waits (left' (job_in entry) + 1)
+      (subst (λ (p : List PlanItem). IsRuleLog g p (r.log ++ Some (job_in entry) ∷ [])) plan_is by) in
+      runs_are_on_time.may_begin g trace able s r gives.running.interleaves timely (job_in entry) m gives.waits free
+
+  begins : HasLeft g (after_tick g (active_job (job_in entry) m s) (with_begun (job_in entry) m s.vars r)) left'
+      → StillStandsFor g trace (handle_message g (job_in entry) m s) (after_tick g (active_job (job_in entry) m s) (with_begun (job_in entry) m s.vars r)) (suc (length r.log)) plan2 lines new left'
+  begins has' =
+      let b = active_job (job_in entry) m s in
+      let r1 = with_begun (job_in entry) m s.vars r in
+      let r2 = after_tick g b r1 in
+      let cost : left' (job_in entry) + 1 ≡ (whole_of g b).ticks = executives_follow.cost g trace able s r (job_in entry) m may gives.waits.fresh left' has' in
+      let same : plan2 ≡ with_cost (job_in entry) (whole_of g b).ticks plan = plan_is ∙ ap (λ (c : ℕ). with_cost (job_in entry) c plan) cost in
+      let next = runs_go_on.begins g trace able s r plan lines gives.running (job_in entry) m gives.waits (subst (λ (p : List PlanItem). IsRuleLog g p (r.log ++ Some (job_in entry) ∷ [])) same by) in
+      let log : r2.log ≡ r.log ++ Some (job_in entry) ∷ [] = grows g b r1 in
+      record {
+        running = subst (λ (p : List PlanItem). IsRunning g trace (handle_message g (job_in entry) m s) r2 (suc (length r.log)) p lines) (sym same) next;
+        stands = subst (StandsFor new left' plan2) (sym log) stands_on;
+      }
 
 goes_on : (g : GraphTree) (trace : List Message) → IsSchedulable g trace → (s : Serial) (r : own.RunState) (plan : List PlanItem) (lines : List OutLine)
     → IsRunning g trace s r (suc (length r.log)) plan lines → (old new : Moment) (left left' : Job → ℕ) → old.tasks ≡ tasks_of g → new.tasks ≡ old.tasks → StandsFor old left plan r.log → HasLeft g r left
@@ -120,9 +139,12 @@ releases g r plan old new left tasks kept stands by job goes most =
 
 pub executives_tick : ExecutivesTick
 executives_tick = record {
-  begins = λ g trace able s r plan lines is old new left left' tasks kept stands has entry there fresh ended goes m pending has'. begins g trace able s r plan lines is old new left left' tasks kept stands has entry there fresh ended goes m pending has';
-  goes_on = λ g trace able s r plan lines is old new left left' tasks kept stands has entry there begun ended goes b at same. goes_on g trace able s r plan lines is old new left left' tasks kept stands has entry there begun ended goes b at same;
-  idles = λ g trace able s r plan lines is old new left left' tasks kept stands goes. idles g trace able s r plan lines is old new left left' tasks kept stands goes;
-  releases = λ g r plan old new left tasks kept stands by job goes most. releases g r plan old new left tasks kept stands by job goes most;
-  next = λ g trace able s r plan lines is moment left wider tasks stands legal port n m there now into back. next_job g trace able s r plan lines is moment left wider tasks stands legal port n m there now into back;
+  may_begin = λ g trace able s r plan lines old new left left' entry ended m gives. may g trace able s r plan lines old new left left' entry ended m gives;
+  begins = λ g trace able s r plan lines old new left left' entry ended m gives has. begins g trace able s r plan lines old new left left' entry ended m gives has;
+  goes_on = λ g trace able s r plan lines is old new left left' executes kept has entry there begun ended goes b at same.
+      goes_on g trace able s r plan lines is old new left left' executes.tasks kept executes.stands has entry there begun ended goes b at same;
+  idles = λ g trace able s r plan lines is old new left left' executes kept goes. idles g trace able s r plan lines is old new left left' executes.tasks kept executes.stands goes;
+  releases = λ g r plan old new left executes kept by job goes most. releases g r plan old new left executes.tasks kept executes.stands by job goes most;
+  next = λ g trace able s r plan lines is moment left wider executes legal port n m there now into back.
+      next_job g trace able s r plan lines is moment left wider executes.tasks executes.stands legal port n m there now into back;
 }

@@ -26,10 +26,10 @@ use Rattle.yt_interleave.specs.Executives.{HasLeft, AllReleased, ExecutivesFollo
 use Rattle.yt_interleave.specs.Interleaved as own
 use Rattle.yt_interleave.specs.Interleaved.{ActiveJob, port_at, group_at, known_at, to_come, put, whole_of, item_of, with_begun, with_tick, with_end}
 use Rattle.yt_serial.specs.Beginnings.{nth_job}
-use Rattle.yt_interleave.specs.Moves.{MayBegin, after_tick, active_job, IsOver}
+use Rattle.yt_interleave.specs.Moves.{MayBegin, after_tick, active_job, IsOver, IsResourceFree}
 use Rattle.yt_serial.specs.Judged.{IsSchedulable}
 use Rattle.yt_interleave.specs.Runs.{IsRunning}
-use Rattle.yt_interleave.specs.Timing.{WaitsToBegin, IsResourceFree}
+use Rattle.yt_interleave.specs.Timing.{WaitsToBegin}
 use Rattle.yt_serial.proofs.Lemmas.{done_this, port_task}
 use Rattle.yt_interleave.proofs.Over.{to_come_none}
 use Rattle.yt_interleave.proofs.Pieces.{placed_none, put_same}

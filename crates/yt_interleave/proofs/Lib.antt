@@ -1,23 +1,23 @@
-pub mod Carrying
-pub mod Begin
-pub mod Determined
-pub mod End
-pub mod Ends
-pub mod ExecutiveTicks
-pub mod Executives
-pub mod HandlerSends
-pub mod HandlerWrites
-pub mod Machines
-pub mod NextJobs
-pub mod MidHandling
-pub mod Over
-pub mod Pieces
-pub mod Plans
-pub mod Promised
-pub mod Sharing
-pub mod Shown
-pub mod Steps
-pub mod Tick
-pub mod Timing
-pub mod Waits
-pub mod Whole
+mod Carrying
+mod Begin
+mod Determined
+mod End
+mod Ends
+mod ExecutiveTicks
+mod Executives
+mod HandlerSends
+mod HandlerWrites
+mod Machines
+mod NextJobs
+mod MidHandling
+mod Over
+mod Pieces
+mod Plans
+mod Promised
+mod Sharing
+mod Shown
+mod Steps
+mod Tick
+mod Timing
+mod Waits
+mod Whole

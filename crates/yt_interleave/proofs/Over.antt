@@ -1,9 +1,8 @@
 -- When all is over the log tells the run of serial handling; and at each moment the variables are what the ticks so far have written.
-use Rattle.std.proofs.Common.{◌≡◌, ◌⊎◌, ℕ, zero, suc, ◌+◌, ◌-◌, ◌<◌, ◌≤◌, true, false, eqb, List, [], ◌∷◌, ◌++◌, length, Option, None, Some, refl, sym, ap, subst, ◌∙◌, inl, inr, ⊎_elim, arith, append_assoc, append-nil, eq-eqb, ne_eqb}
+use Rattle.std.proofs.Common.{◌≡◌, ℕ, zero, suc, ◌+◌, ◌<◌, ◌≤◌, List, [], ◌∷◌, ◌++◌, length, Option, None, Some, refl, sym, ap, subst, ◌∙◌, inl, inr, ⊎_elim, arith}
 use Rattle.std.specs.Prelude.{ℤ}
-use Rattle.std.specs.Option.{option_map_or, option_and_then, unwrap_or}
-use Rattle.std.proofs.lemmas.Bool.{cases_eq, cases_Bool, cond-true, cond-false}
-use Rattle.std.proofs.lemmas.List.{length-append, get_or_past}
+use Rattle.std.specs.Option.{option_map_or, unwrap_or}
+use Rattle.std.proofs.lemmas.List.{length-append}
 use Rattle.std.proofs.lemmas.Option.{none-some, same_Some, option_and_then_some}
 use Rattle.yt_graph.specs.declared.handled.Write.{Write}
 use Rattle.yt_graph.specs.declared.port.Feed.{Feed}
@@ -12,24 +11,23 @@ use Rattle.yt_graph.specs.Meaning.{handling}
 use Rattle.yt_graph.specs.Picture.{GraphTree}
 use Rattle.yt_log.specs.declared.job.Job.{Job}
 use Rattle.yt_log.specs.declared.plan.PlanItem.{PlanItem}
-use Rattle.yt_log.specs.Order.{insert_by, sort_by}
 use Rattle.yt_log.specs.Patterns.{item_before}
 use Rattle.yt_log.specs.Tasks.{Has}
-use Rattle.yt_log.specs.Ticks.{Ticks, tick, done, first_tick}
-use Rattle.yt_log.proofs.Members.{has_append, has_sorted, sorted_has}
+use Rattle.yt_log.specs.Ticks.{Ticks, done, first_tick}
+use Rattle.yt_log.proofs.Members.{has_sorted, sorted_has}
 use Rattle.yt_log.proofs.Plans.{good_item}
-use Rattle.yt_log.proofs.Ticks.{done_grows, first_is, first_stays}
+use Rattle.yt_log.proofs.Ticks.{first_is, first_stays}
 use Rattle.yt_serial.specs.declared.trace.Message.{Message}
-use Rattle.yt_serial.specs.Beginnings.{newcomer, begun_below, order_of, nth_job}
+use Rattle.yt_serial.specs.Beginnings.{begun_below, order_of, nth_job}
 use Rattle.yt_serial.specs.PortMessages.{PortMessage, numbered}
 use Rattle.yt_serial.specs.SerialHandling.{Handled, Serial, messages_at, items_of, start, port_of, serial_step, serial_run, plan_of, plan_of_log}
 use Rattle.yt_serial.specs.Told.{AllHandled, BeginsInOrder}
-use Rattle.yt_serial.proofs.Lemmas.{begun_below-append, plans_are_legal, feed_cases, port_there, numbered_apart, stepped, writes_below-suc, writes_below_more, writes_below_prefix, writes_in_idle, begun-suc, goes_on, run_rest}
+use Rattle.yt_serial.proofs.Lemmas.{begun_below-append, plans_are_legal, feed_cases, port_there, numbered_apart, stepped, writes_below_more, writes_below_prefix, goes_on, run_rest}
 use Rattle.yt_rates.specs.Rates.{period_of}
 use Rattle.yt_rates.specs.Tables.{tasks_of}
-use Rattle.yt_serial.specs.Variables.{after_writes, writes_in, writes_below}
+use Rattle.yt_serial.specs.Variables.{after_writes, writes_below}
 use Rattle.yt_interleave.specs.Interleaved.{ActiveJob, RunState, value_at, passed_by, to_come, item_of, IsInUse, MatchesSerial}
-use Rattle.yt_serial.specs.Laws.{CanRun, VariablesStay}
+use Rattle.yt_serial.specs.Laws.{CanRun}
 use Rattle.yt_interleave.specs.Laws.{HasHandledAll, EndsAreSerial, VariablesAreWritten}
 use Rattle.yt_interleave.specs.Moves.{Interleaves, IsOver}
 use Rattle.yt_interleave.proofs.Begin.{serial}

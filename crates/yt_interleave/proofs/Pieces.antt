@@ -6,7 +6,6 @@ use Rattle.std.proofs.lemmas.Option.{none-some}
 use Rattle.yt_graph.specs.declared.port.Feed as feed
 use Rattle.yt_graph.specs.declared.port.Feed.{Feed}
 use Rattle.yt_graph.specs.Picture.{GraphTree, PortTree}
-use Rattle.yt_log.specs.Tasks.{Has}
 use Rattle.yt_serial.specs.PortMessages.{PortMessage}
 use Rattle.yt_serial.specs.SerialHandling.{placed, brought}
 use Rattle.yt_interleave.specs.Interleaved.{ActiveJob, put, added, to_come, passed_by, passes_of}

@@ -1,6 +1,6 @@
 -- The plan of an executive goes with the interleaved run through each kind of tick, and has at the end the items of serial handling.
-use Rattle.std.proofs.Common.{◌≡◌, ◌⊎◌, ℕ, zero, suc, ◌+◌, ◌<◌, ◌≤◌, true, false, cond, List, [], ◌∷◌, ◌++◌, length, slice_get, Option, None, Some, refl, sym, ap, subst, ◌∙◌, inl, inr, ⊎_elim, arith}
-use Rattle.std.proofs.lemmas.Bool.{cases_eq, cond-true, cond-false, false_from_ne_true}
+use Rattle.std.proofs.Common.{◌≡◌, ◌⊎◌, ℕ, zero, suc, ◌+◌, ◌<◌, ◌≤◌, false, List, [], ◌∷◌, ◌++◌, length, slice_get, Option, None, Some, sym, ap, subst, ◌∙◌, inl, inr, ⊎_elim, arith}
+use Rattle.std.proofs.lemmas.Bool.{cases_eq, false_from_ne_true}
 use Rattle.std.proofs.lemmas.List.{map_push}
 use Rattle.std.proofs.lemmas.Option.{none-some, same_Some, slice_get_within}
 use Rattle.yt_graph.specs.Picture.{GraphTree, PortTree}
@@ -8,11 +8,10 @@ use Rattle.yt_set.specs.declared.task.Task.{Task}
 use Rattle.yt_log.specs.declared.job.Job.{Job}
 use Rattle.yt_log.specs.declared.plan.PlanItem.{PlanItem}
 use Rattle.yt_log.specs.EdfDdm.{rank, least, waits, choice, IsEdfDdm, precedes}
-use Rattle.yt_log.specs.Plan.{same_job, IsLegal}
+use Rattle.yt_log.specs.Plan.{IsLegal}
 use Rattle.yt_log.specs.Tasks.{Has}
 use Rattle.yt_log.specs.Ticks.{Ticks, done, IsWaiting}
 use Rattle.yt_log.proofs.Choices.{IsLeast, least_is, waits_true, waits_from}
-use Rattle.yt_log.proofs.Jobs.{same_job_true, same_job_refl, cases_job}
 use Rattle.yt_log.proofs.Leasts.{rule_is_least}
 use Rattle.yt_log.proofs.Appends.{has_push}
 use Rattle.yt_log.proofs.Plans.{one_item}
@@ -25,8 +24,7 @@ use Rattle.yt_serial.specs.Beginnings.{order_of, nth_job}
 use Rattle.yt_serial.specs.PortMessages.{PortMessage, numbered}
 use Rattle.yt_serial.specs.SerialHandling.{Handled, Serial, items_of, brought, handle_message}
 use Rattle.yt_serial.proofs.Lemmas.{placed_at, placed-length, port_there, get_cases, numbered_left, length_push}
-use Rattle.yt_interleave.specs.Interleaved as own
-use Rattle.yt_interleave.specs.Interleaved.{ActiveJob, RunState, port_at, known_at, whole_of, item_of, passes_of, with_begun, with_tick, with_end, with_idle, MatchesSerial}
+use Rattle.yt_interleave.specs.Interleaved.{ActiveJob, RunState, port_at, known_at, whole_of, item_of, passes_of, with_begun, with_tick, with_end, with_idle}
 use Rattle.yt_serial.specs.Laws.{CanRun}
 use Rattle.yt_interleave.specs.Moves.{MayBegin, after_tick, active_job, Interleaves, IsOver}
 use Rattle.yt_interleave.specs.Timing.{IsPlanOfRun}

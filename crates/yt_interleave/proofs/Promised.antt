@@ -1,5 +1,5 @@
 -- What is promised of a run that is over, where its executive went by the rule.
-use Rattle.std.proofs.Common.{◌≡◌, List, [], length, Option, Some, sym, ap, subst}
+use Rattle.std.proofs.Common.{◌≡◌, List, [], Option, sym, ap, subst}
 use Rattle.std.specs.Option.{option_map_or}
 use Rattle.yt_log.specs.declared.plan.PlanItem.{PlanItem}
 use Rattle.yt_log.specs.EdfDdm.{IsEdfDdm}

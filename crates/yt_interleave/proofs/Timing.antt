@@ -1,9 +1,7 @@
 -- Where deadlines are kept, a port's messages are handled in turn, and none is replaced before its handling ends.
-use Rattle.std.proofs.Common.{◌≡◌, ◌⊎◌, ℕ, zero, suc, ◌+◌, ◌<◌, ◌≤◌, List, [], length, slice_get, get_or, Option, None, Some, All, refl, sym, ap, subst, ◌∙◌, inl, inr, ⊎_elim, arith}
-use Rattle.std.specs.Option.{option_map}
+use Rattle.std.proofs.Common.{◌≡◌, ◌⊎◌, ℕ, zero, suc, ◌+◌, ◌<◌, ◌≤◌, List, length, slice_get, get_or, Option, None, Some, All, refl, sym, ap, subst, ◌∙◌, inl, inr, ⊎_elim, arith}
 use Rattle.std.proofs.lemmas.Bool.{cases_eq, cases_lt}
-use Rattle.std.proofs.lemmas.List.{length-map}
-use Rattle.std.proofs.lemmas.Option.{none-some, same_Some, slice_get_within, slice_get-get_or, get_or_from_slice_get, slice_get-map}
+use Rattle.std.proofs.lemmas.Option.{none-some, same_Some, slice_get_within, slice_get-get_or, get_or_from_slice_get}
 use Rattle.yt_graph.specs.declared.port.Feed.{Feed}
 use Rattle.yt_graph.specs.Picture.{GraphTree, PortTree}
 use Rattle.yt_log.specs.declared.job.Job.{Job}
@@ -12,21 +10,21 @@ use Rattle.yt_log.specs.Plan.{IsLegal, its_task, deadline_of}
 use Rattle.yt_log.specs.Tasks as numbers
 use Rattle.yt_log.specs.Tasks.{Has, no_task}
 use Rattle.yt_log.specs.Ticks.{done, first_tick, KeepsDeadlines}
-use Rattle.yt_log.proofs.Demands.{task_of-suc, deadline_is}
+use Rattle.yt_log.proofs.Demands.{deadline_is}
 use Rattle.yt_log.proofs.Plans.{one_item, good_item}
 use Rattle.yt_log.proofs.Ticks.{done_grows, first_is}
 use Rattle.yt_rates.specs.Faults.{IsWithinRates}
 use Rattle.yt_rates.specs.Rates.{period_of}
-use Rattle.yt_rates.specs.Tables.{task_of, tasks_of}
+use Rattle.yt_rates.specs.Tables.{tasks_of}
 use Rattle.yt_serial.specs.declared.trace.Message.{Message}
 use Rattle.yt_serial.specs.Beginnings.{order_of, nth_job}
 use Rattle.yt_serial.specs.PortMessages.{PortMessage, numbered}
 use Rattle.yt_serial.specs.SerialHandling.{Serial, messages_at, items_of, handled_of, brought}
-use Rattle.yt_serial.proofs.Lemmas.{Holds, port_there, BringsOf, brings, spaced_within, numbered_apart, port_task, sent_late}
+use Rattle.yt_serial.proofs.Lemmas.{Holds, port_there, numbered_apart, port_task, sent_late}
 use Rattle.yt_interleave.specs.Interleaved.{ActiveJob, RunState, port_at, known_at, whole_of, item_of, passes_of, MatchesSerial}
 use Rattle.yt_serial.specs.Laws.{CanRun}
-use Rattle.yt_interleave.specs.Moves.{MayBegin, Interleaves}
-use Rattle.yt_interleave.specs.Timing.{HasEnded, IsOnTime, WaitsToBegin, IsResourceFree, IsPlanOfRun}
+use Rattle.yt_interleave.specs.Moves.{MayBegin, Interleaves, IsResourceFree}
+use Rattle.yt_interleave.specs.Timing.{HasEnded, IsOnTime, WaitsToBegin, IsPlanOfRun}
 use Rattle.yt_interleave.proofs.Begin as begin
 
 pub period_some : (g : GraphTree) (port : ℕ) (q : PortTree) → All (IsWithinRates g) g.ports → numbered g.ports port ≡ Some q → 1 ≤ period_of g q

@@ -5,25 +5,23 @@ use Rattle.std.proofs.lemmas.Bool.{cases_eq, cases_lt, cond-true, cond-false, le
 use Rattle.std.proofs.lemmas.List.{length-map}
 use Rattle.std.proofs.lemmas.Nat.{mul-le}
 use Rattle.std.proofs.Math.Nat.{mod-add-div}
-use Rattle.std.proofs.lemmas.Option.{none-some, same_Some, option_and_then_some, slice_get-map, slice_get-get_or, slice_get_past, get_or_from_slice_get, slice_get_within}
+use Rattle.std.proofs.lemmas.Option.{none-some, slice_get-map, slice_get-get_or, slice_get_past, get_or_from_slice_get, slice_get_within}
 use Rattle.yt_graph.specs.declared.graph.Output.{Output}
 use Rattle.yt_graph.specs.declared.handled.SendItem.{SendItem}
 use Rattle.yt_graph.specs.declared.port.Feed.{Feed}
 use Rattle.yt_graph.specs.declared.port.Feed.TheVariants.{Input, Out}
-use Rattle.yt_graph.specs.Meaning.{handling}
 use Rattle.yt_graph.specs.Cost.{greatest_sends}
 use Rattle.yt_rates.specs.Faults.{IsWithinRates}
-use Rattle.yt_serial.proofs.Lemmas.{inputs_stay, next_multiple, numbered_far, Holds, placed_at, stepped, holds_stepped, serial_holds, lines_hold, TimesRise}
+use Rattle.yt_serial.proofs.Lemmas.{inputs_stay, next_multiple, numbered_far, placed_at, serial_holds, lines_hold, TimesRise}
 use Rattle.yt_graph.specs.Picture.{GraphTree, PortTree}
-use Rattle.yt_log.specs.declared.job.Job.{Job}
 use Rattle.yt_log.specs.Tasks.{Has}
 use Rattle.yt_code.specs.Outbox.{messages_on}
 use Rattle.yt_rates.specs.Rates.{every_of, period_of, gap_of}
 use Rattle.yt_serial.specs.declared.shown.OutLine.{OutLine}
 use Rattle.yt_serial.specs.declared.trace.Message.{Message}
 use Rattle.yt_serial.specs.Beginnings.{order_of}
-use Rattle.yt_serial.specs.PortMessages.{PortMessage, numbered, messages_of, spaced, passed}
-use Rattle.yt_serial.specs.SerialHandling.{Serial, messages_at, brought, from_outside, shown, start, port_of, serial_step, serial_run}
+use Rattle.yt_serial.specs.PortMessages.{PortMessage, numbered, messages_of, spaced}
+use Rattle.yt_serial.specs.SerialHandling.{Serial, messages_at, brought, from_outside, shown, start}
 use Rattle.yt_interleave.specs.Interleaved.{ActiveJob, RunState, port_at, known_at, passes_of, to_come, output_feeds, with_end}
 use Rattle.yt_serial.specs.Laws.{CanRun}
 use Rattle.yt_interleave.specs.Lines.{messages_to, come_at}

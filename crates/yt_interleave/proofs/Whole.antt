@@ -24,10 +24,10 @@ use Rattle.yt_serial.proofs.Lemmas.{port_there, length_push, tick_last, done_bef
 use Rattle.yt_interleave.specs.Interleaved.{ActiveJob, RunState, port_at, group_at, known_at, whole_of, item_of, first_state, with_begun, with_tick, with_idle}
 use Rattle.yt_serial.specs.Lines.{lines_of}
 use Rattle.yt_interleave.specs.Lines.{come_before, HasShown, KnowsLines}
-use Rattle.yt_interleave.specs.Moves.{MayBegin, after_tick, active_job, Interleaves, IsOver}
+use Rattle.yt_interleave.specs.Moves.{MayBegin, after_tick, active_job, Interleaves, IsOver, IsResourceFree}
 use Rattle.yt_serial.specs.Judged.{IsSchedulable}
 use Rattle.yt_interleave.specs.Runs.{IsRunning, AreReleased, AreShownNow, AllShown, RunsGoOn, RunsAreOnTime}
-use Rattle.yt_interleave.specs.Timing.{HasEnded, IsOnTime, WaitsToBegin, IsResourceFree, IsPlanOfRun, IsRuleLog}
+use Rattle.yt_interleave.specs.Timing.{HasEnded, IsOnTime, WaitsToBegin, IsPlanOfRun, IsRuleLog}
 use Rattle.yt_interleave.proofs.Executives.{group_is}
 use Rattle.yt_interleave.proofs.Plans as plans
 use Rattle.yt_interleave.proofs.Promised.{ends_are_promised}

@@ -19,13 +19,13 @@ use Rattle.yt_serial.specs.PortMessages.{PortMessage, numbered}
 use Rattle.yt_serial.specs.SerialHandling.{Serial, handle_message}
 use Rattle.yt_interleave.specs.Interleaved as own
 use Rattle.yt_interleave.specs.Interleaved.{ActiveJob, known_at, whole_of, with_begun, with_idle}
-use Rattle.yt_interleave.specs.Moves.{MayBegin, after_tick, active_job, IsOver}
+use Rattle.yt_interleave.specs.Moves.{MayBegin, after_tick, active_job, IsOver, IsResourceFree}
 use Rattle.yt_serial.specs.Judged.{IsSchedulable}
 use Rattle.yt_interleave.specs.Runs.{IsRunning}
-use Rattle.yt_interleave.specs.Timing.{WaitsToBegin, IsResourceFree, IsRuleLog}
+use Rattle.yt_interleave.specs.Timing.{WaitsToBegin, IsRuleLog}
 use Rattle.yt_serial.specs.Beginnings.{nth_job}
 
--- so many ticks are left of each job: of one that is under way what its handling has left, of another none
+-- so many ticks are left of each job: of an active one what its handling has left, of another none
 pub record HasLeft (g : GraphTree) (r : own.RunState) (left : Job → ℕ) : Type 0 where
   pub active : (port : ℕ) (b : ActiveJob) → r.active port ≡ Some b → done r.log b.job (length r.log) + left b.job ≡ (whole_of g b).ticks
   pub only : (job : Job) → 0 < left job → (b : ActiveJob) × (r.active job.task ≡ Some b) × (b.job ≡ job)
@@ -41,16 +41,16 @@ pub record ExecutivesFollow : Type 0 where
       (g : GraphTree) (trace : List Message) → IsSchedulable g trace → (s : Serial) (r : own.RunState) (due : ℕ) (plan : List PlanItem) (lines : List OutLine) →
       IsRunning g trace s r due plan lines → (moment : Moment) (left : Job → ℕ) → StandsFor moment left plan r.log →
       (entry : Entry) → Contains moment.entries entry → entry.begun ≡ false → (m : PortMessage) × WaitsToBegin r (job_in entry) m
-  -- one that has begun is under way
+  -- one that has begun is active
   pub under_way :
       (g : GraphTree) (trace : List Message) → IsSchedulable g trace → (s : Serial) (r : own.RunState) (due : ℕ) (plan : List PlanItem) (lines : List OutLine) →
       IsRunning g trace s r due plan lines → (moment : Moment) (left : Job → ℕ) → StandsFor moment left plan r.log →
       (entry : Entry) → Contains moment.entries entry → entry.begun ≡ true → (b : ActiveJob) × (r.active entry.task ≡ Some b) × (b.job ≡ job_in entry)
-  -- no job with ticks left is under the resource of a job that is to begin
+  -- where no job with ticks left is under the resource of a job that is to begin, and each active job has ticks left, that resource is free
   pub free :
       (g : GraphTree) (r : own.RunState) (left : Job → ℕ) → HasLeft g r left → (job : Job) → IsFree (tasks_of g) left job →
       ((port : ℕ) (b : ActiveJob) → r.active port ≡ Some b → (b.job.task ≡ port) × (done r.log b.job (length r.log) < (whole_of g b).ticks)) → IsResourceFree g r job.task
-  -- where no job waits and all known messages have come, all is over
+  -- where no job waits and all known messages have come, all messages are handled
   pub over :
       (g : GraphTree) (trace : List Message) → IsSchedulable g trace → (s : Serial) (r : own.RunState) (due : ℕ) (plan : List PlanItem) (lines : List OutLine) →
       IsRunning g trace s r due plan lines → length r.log ≤ due → due ≤ suc (length r.log) → AllReleased r due →
@@ -61,41 +61,62 @@ pub record ExecutivesFollow : Type 0 where
       done r.log job (length r.log) ≡ 0 → (left : Job → ℕ) → HasLeft g (after_tick g (active_job job m s) (with_begun job m s.vars r)) left →
       left job + 1 ≡ (whole_of g (active_job job m s)).ticks
 
+-- an executive and a body that stand for the plan and the log of a run
+pub record Executes (g : GraphTree) (r : own.RunState) (plan : List PlanItem) (moment : Moment) (left : Job → ℕ) : Type 0 where
+  pub tasks : moment.tasks ≡ tasks_of g
+  pub stands : StandsFor moment left plan r.log
+
 -- a run after a tick, and an executive and a body that stand for it
 pub record StillStandsFor (g : GraphTree) (trace : List Message) (s : Serial) (r : own.RunState) (due : ℕ) (plan : List PlanItem) (lines : List OutLine) (moment : Moment) (left : Job → ℕ) : Type 0 where
   pub running : IsRunning g trace s r due plan lines
   pub stands : StandsFor moment left plan r.log
 
+-- the executive of a run gives a tick to a job of an entry that had not begun, whose message has come
+pub record GivesFirstTick (g : GraphTree) (trace : List Message) (s : Serial) (r : own.RunState) (plan : List PlanItem) (lines : List OutLine) (old new : Moment) (left left' : Job → ℕ) (entry : Entry) (ended : Bool) (m : PortMessage) : Type 0 where
+  pub running : IsRunning g trace s r (suc (length r.log)) plan lines
+  pub executes : Executes g r plan old left
+  pub kept : new.tasks ≡ old.tasks
+  pub left_of : HasLeft g r left
+  pub there : Contains old.entries entry
+  pub fresh : entry.begun ≡ false
+  pub goes : GoesOnTo old new left left' (Ran (job_in entry) ended)
+  pub waits : WaitsToBegin r (job_in entry) m
+
 -- a tick of an executive is one of the run that it stands for
 pub record ExecutivesTick : Type 0 where
-  -- where the entry had not begun, its job begins with its port's next message
+  -- a job of an entry that had not begun may begin
+  pub may_begin :
+      (g : GraphTree) (trace : List Message) → IsSchedulable g trace → (s : Serial) (r : own.RunState) (plan : List PlanItem) (lines : List OutLine) →
+      (old new : Moment) (left left' : Job → ℕ) (entry : Entry) (ended : Bool) (m : PortMessage) → GivesFirstTick g trace s r plan lines old new left left' entry ended m →
+      MayBegin g s r (job_in entry) m
+  -- and it begins with its port's next message
   pub begins :
       (g : GraphTree) (trace : List Message) → IsSchedulable g trace → (s : Serial) (r : own.RunState) (plan : List PlanItem) (lines : List OutLine) →
-      IsRunning g trace s r (suc (length r.log)) plan lines → (old new : Moment) (left left' : Job → ℕ) → old.tasks ≡ tasks_of g → new.tasks ≡ old.tasks → StandsFor old left plan r.log → HasLeft g r left →
-      (entry : Entry) → Contains old.entries entry → entry.begun ≡ false → (ended : Bool) → GoesOnTo old new left left' (Ran (job_in entry) ended) →
-      (m : PortMessage) → WaitsToBegin r (job_in entry) m → HasLeft g (after_tick g (active_job (job_in entry) m s) (with_begun (job_in entry) m s.vars r)) left' →
+      (old new : Moment) (left left' : Job → ℕ) (entry : Entry) (ended : Bool) (m : PortMessage) → GivesFirstTick g trace s r plan lines old new left left' entry ended m →
+      HasLeft g (after_tick g (active_job (job_in entry) m s) (with_begun (job_in entry) m s.vars r)) left' →
       StillStandsFor g trace (handle_message g (job_in entry) m s) (after_tick g (active_job (job_in entry) m s) (with_begun (job_in entry) m s.vars r)) (suc (length r.log))
       (plan_after left left' (Ran (job_in entry) ended) plan) lines new left'
-  -- where it had, the job that is under way goes on
+  -- the active job of an entry that had begun goes on
   pub goes_on :
       (g : GraphTree) (trace : List Message) → IsSchedulable g trace → (s : Serial) (r : own.RunState) (plan : List PlanItem) (lines : List OutLine) →
-      IsRunning g trace s r (suc (length r.log)) plan lines → (old new : Moment) (left left' : Job → ℕ) → old.tasks ≡ tasks_of g → new.tasks ≡ old.tasks → StandsFor old left plan r.log → HasLeft g r left →
+      IsRunning g trace s r (suc (length r.log)) plan lines → (old new : Moment) (left left' : Job → ℕ) → Executes g r plan old left → new.tasks ≡ old.tasks → HasLeft g r left →
       (entry : Entry) → Contains old.entries entry → entry.begun ≡ true → (ended : Bool) → GoesOnTo old new left left' (Ran (job_in entry) ended) →
       (b : ActiveJob) → r.active entry.task ≡ Some b → b.job ≡ job_in entry →
       StillStandsFor g trace s (after_tick g b r) (suc (length r.log)) plan lines new left'
+  -- an idle tick
   pub idles :
       (g : GraphTree) (trace : List Message) → IsSchedulable g trace → (s : Serial) (r : own.RunState) (plan : List PlanItem) (lines : List OutLine) →
-      IsRunning g trace s r (suc (length r.log)) plan lines → (old new : Moment) (left left' : Job → ℕ) → old.tasks ≡ tasks_of g → new.tasks ≡ old.tasks → StandsFor old left plan r.log →
+      IsRunning g trace s r (suc (length r.log)) plan lines → (old new : Moment) (left left' : Job → ℕ) → Executes g r plan old left → new.tasks ≡ old.tasks →
       GoesOnTo old new left left' Idle → StillStandsFor g trace s (with_idle r) (suc (length r.log)) plan lines new left'
-  -- a release of a job whose message comes now
+  -- a job whose message comes now is released
   pub releases :
-      (g : GraphTree) (r : own.RunState) (plan : List PlanItem) (old new : Moment) (left : Job → ℕ) → old.tasks ≡ tasks_of g → new.tasks ≡ old.tasks → StandsFor old left plan r.log → IsRuleLog g plan r.log →
+      (g : GraphTree) (r : own.RunState) (plan : List PlanItem) (old new : Moment) (left : Job → ℕ) → Executes g r plan old left → new.tasks ≡ old.tasks → IsRuleLog g plan r.log →
       (job : Job) → GoesOnWith old new job → 1 ≤ (task_in old.tasks job).cost →
       StandsFor new left (plan ++ item_at old.clock job 1 ∷ []) r.log × IsRuleLog g (plan ++ item_at old.clock job 1 ∷ []) r.log
-  -- which may be released: its number comes after that of the port's last release, which was a period ago or more. The plan may have
-  -- more items by now, of other ports
+  -- it may be released: its number comes after that of the port's last release, which was a period ago or more. The plan may have more
+  -- items by now, of other ports
   pub next :
       (g : GraphTree) (trace : List Message) → IsSchedulable g trace → (s : Serial) (r : own.RunState) (plan : List PlanItem) (lines : List OutLine) →
-      IsRunning g trace s r (length r.log) plan lines → (moment : Moment) (left : Job → ℕ) (wider : List PlanItem) → moment.tasks ≡ tasks_of g → StandsFor moment left wider r.log →
+      IsRunning g trace s r (length r.log) plan lines → (moment : Moment) (left : Job → ℕ) (wider : List PlanItem) → Executes g r wider moment left →
       IsLegal (tasks_of g) wider → (port n : ℕ) (m : PortMessage) → numbered (known_at r port) n ≡ Some m → m.time ≡ length r.log →
       ((z : PlanItem) → Has plan z → Has wider z) → ((z : PlanItem) → Has wider z → z.job.task ≡ port → Has plan z) → IsNextJob moment (nth_job port n)

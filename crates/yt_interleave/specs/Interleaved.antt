@@ -1,33 +1,34 @@
--- Interleaved handling at a moment: several messages are under way at once, at most one of each port.
-use Rattle.std.specs.Prelude.{◌≡◌, ℕ, zero, suc, ◌<◌, ◌≤◌, ◌==◌, ◌⊎◌, ℤ, pos, List, [], ◌∷◌, ◌++◌, map, length, slice_index_or, Option, Some, None, if◌then◌else◌}
+-- Interleaved handling: several messages are handled at once, at most one of each port.
+use Rattle.std.specs.Prelude.{◌≡◌, ℕ, ◌<◌, ◌≤◌, ◌==◌, ◌⊎◌, ℤ, pos, List, [], ◌∷◌, ◌++◌, map, length, slice_index_or, Option, Some, None, if◌then◌else◌}
 use Rattle.std.specs.List.{Contains}
 use Rattle.std.specs.Option.{unwrap_or}
-use Rattle.yt_graph.specs.declared.handled.Write.{Write}
 use Rattle.yt_graph.specs.declared.port.Feed as feed
 use Rattle.yt_graph.specs.declared.port.Feed.{Feed}
 use Rattle.yt_graph.specs.Meaning.{Handling, handling}
 use Rattle.yt_graph.specs.Picture.{GraphTree, PortTree}
 use Rattle.yt_log.specs.declared.job.Job.{Job}
 use Rattle.yt_log.specs.declared.plan.PlanItem.{PlanItem}
-use Rattle.yt_log.specs.Plan.{same_job}
 use Rattle.yt_log.specs.Tasks.{Has}
 use Rattle.yt_log.specs.Ticks.{Ticks, tick, done, IsLawful}
 use Rattle.yt_cost.specs.CodeAlone.{written_before}
 use Rattle.yt_cost.specs.CodeVars.{block_vars}
 use Rattle.yt_serial.specs.declared.trace.Message.{Message}
 use Rattle.yt_serial.specs.PortMessages.{PortMessage, numbered, passed}
-use Rattle.yt_serial.specs.SerialHandling.{Handled, Serial, messages_at, items_of, handled_of, start, brought, placed, no_port, serial_run}
+use Rattle.yt_serial.specs.SerialHandling.{Serial, messages_at, items_of, handled_of, start, brought, placed, no_port, serial_run}
 use Rattle.yt_serial.specs.Variables.{after_writes, writes_at, writes_of, variables_at}
 use Rattle.yt_serial.specs.Beginnings.{nth_job}
 
--- a job that has begun and not ended: its message, and the variables that serial handling has before it
+-- a job that has begun and not ended: its message, and variables that are, where its handler uses them, those that serial handling has
+-- before it. (Serial handling goes on by a whole job as the job begins; so these need not be the variables of the run.)
 pub record ActiveJob : Type 0 where
   pub job : Job
   pub message : PortMessage
   pub vars : List ℤ
 
--- the log so far; the variables; for each port the job that is under way; and the messages of each port and of each output
--- that are known: those of the trace, and those that ended jobs passed on. The known messages whose time has come are placed, the others wait
+-- an interleaved run between two ticks: the log so far; the variables; for each port its active job, where it has one; and the messages of
+-- each port and of each output that are known, which are those of the trace and those that ended jobs passed on. Of these the ones
+-- whose time has come are placed, and the others wait. A message is known from the end of the job that sends it, long before it comes;
+-- a job of one tick is active at no state between ticks
 pub record RunState : Type 0 where
   pub log : Ticks
   pub vars : List ℤ
@@ -71,12 +72,12 @@ known_at r port = unwrap_or (numbered r.messages port) []
 abbrev pub put : {X : Type 0} → ℕ → X → (ℕ → X) → ℕ → X
 put n x f m = if m == n then x else f m
 
--- what a job that is under way will pass on through an out
+-- what an active job will pass on through an out
 abbrev pub passed_by : GraphTree → Option ActiveJob → ℕ → List PortMessage
 passed_by g None out = []
 passed_by g (Some b) out = passes_of g b out
 
--- what the jobs that are under way will bring a feed
+-- what the active jobs will bring a feed
 abbrev pub to_come : GraphTree → (ℕ → Option ActiveJob) → Feed → List PortMessage
 to_come g active (feed.TheVariants.Input input) = []
 to_come g active (feed.TheVariants.Out port out) = passed_by g (active port) out
@@ -91,7 +92,7 @@ added brings (f ∷ feeds) (before ∷ messages) = (before ++ brings f) ∷ adde
 abbrev pub output_feeds : GraphTree → List Feed
 output_feeds g = map (λ o. feed.TheVariants.Out o.port o.out) g.outputs
 
--- before anything happened: the messages of the trace are known
+-- before the first tick the messages of the trace are known, and no others
 abbrev pub first_state : GraphTree → List Message → RunState
 first_state g trace = record {
   log = [];
@@ -101,12 +102,12 @@ first_state g trace = record {
   outputs = map (λ o. []) g.outputs;
 }
 
--- a job begins with a message; `vars` are serial handling's variables before it
+-- a job begins with a message; `vars` are to be serial handling's variables before it
 abbrev pub with_begun : Job → PortMessage → List ℤ → RunState → RunState
 with_begun job message vars r =
     record r { active = put job.task (Some (record { job = job; message = message; vars = vars })) r.active }
 
--- a job that is under way is given a tick: its writes of that tick are made
+-- an active job is given a tick: its writes of that tick are made
 abbrev pub with_tick : GraphTree → ActiveJob → RunState → RunState
 with_tick g b r = record r {
   log = r.log ++ Some b.job ∷ [];
@@ -125,7 +126,7 @@ with_end g b r = record r {
   outputs = added (brought b.job.task (passes_of g b)) (output_feeds g) r.outputs;
 }
 
--- a job is under way at a port: it is the port's last that began, and its message has come
+-- a port's active job: it is the port's last that began, and its message has come
 pub record IsActiveJob (g : GraphTree) (s : Serial) (log : Ticks) (vars : List ℤ) (port : ℕ) (b : ActiveJob) : Type 0 where
   pub task : b.job.task ≡ port
   pub number : b.job.number ≡ handled_of s port
@@ -139,11 +140,11 @@ pub record IsActiveJob (g : GraphTree) (s : Serial) (log : Ticks) (vars : List �
   pub now : (v : ℕ) → Uses g port v → value_at vars v ≡ value_at (written_before (done log b.job (length log)) (whole_of g b).writes b.vars) v
   pub later : (v : ℕ) → Uses g port v → value_at s.vars v ≡ value_at (whole_of g b).vars v
 
--- a port's job that is under way uses a variable
+-- a port's active job uses a variable
 abbrev pub IsInUse : GraphTree → (ℕ → Option ActiveJob) → ℕ → Type 0
 IsInUse g active v = (port : ℕ) × (b : ActiveJob) × (active port ≡ Some b) × Uses g port v
 
--- an item of serial handling is of a job that is under way, or of one that has ended
+-- an item of serial handling is of an active job, or of one that has ended
 abbrev pub IsEndedOrActive : GraphTree → Ticks → (ℕ → Option ActiveJob) → PlanItem → Type 0
 IsEndedOrActive g log active z =
     ((b : ActiveJob) × (active z.job.task ≡ Some b) × (z ≡ item_of g b)) ⊎ (done log z.job (length log) ≡ z.cost)
@@ -152,16 +153,17 @@ IsEndedOrActive g log active z =
 abbrev pub BeginInTurn : Ticks → Type 0
 BeginInTurn log = (t : ℕ) (job : Job) → tick log t ≡ Some job → (k : ℕ) → 1 ≤ k → k < job.number → 0 < done log (nth_job job.task k) t
 
--- the interleaved run stands for serial handling along the jobs that have begun, in this order
+-- the interleaved run matches serial handling along the jobs that have begun, in this order: what serial handling has already, since it
+-- handles each of these jobs whole, the run has or is about to have
 pub record MatchesSerial (g : GraphTree) (trace : List Message) (order : List Job) (s : Serial) (r : RunState) : Type 0 where
   pub along : serial_run g order (start g trace) ≡ Some s
   pub under_way : (port : ℕ) (b : ActiveJob) → r.active port ≡ Some b → IsActiveJob g s r.log r.vars port b
   pub exclusive : (p q : ℕ) (b c : ActiveJob) → r.active p ≡ Some b → r.active q ≡ Some c → (p ≡ q → ⊥) → 0 < group_at g p → group_at g p ≡ group_at g q → ⊥
   pub known : (port : ℕ) (b : ActiveJob) → r.active port ≡ Some b → numbered (known_at r port) b.job.number ≡ Some b.message
-  -- the messages of serial handling are the known ones and those that the jobs under way will pass on
+  -- the messages of serial handling are the known ones and those that the active jobs will pass on
   pub long : length r.messages ≡ length g.ports
   pub messages : s.messages ≡ placed (to_come g r.active) g.ports r.messages
-  -- variables that no job under way uses are those of serial handling, and all are what the ticks so far have written
+  -- variables that no active job uses are those of serial handling, and all are what the ticks so far have written
   pub count : length r.vars ≡ length s.vars
   pub others : (v : ℕ) → (value_at r.vars v ≡ value_at s.vars v) ⊎ IsInUse g r.active v
   pub written : r.vars ≡ variables_at (start g trace).vars s.handled r.log (length r.log)

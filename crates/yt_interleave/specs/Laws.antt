@@ -1,20 +1,16 @@
 -- What is proved of interleaved handling.
-use Rattle.std.specs.Prelude.{◌≡◌, ℕ, ℤ, ◌≤◌, ◌++◌, List, All, length, Some}
+use Rattle.std.specs.Prelude.{◌≡◌, ℕ, ◌++◌, List, length, Some}
 use Rattle.yt_graph.specs.Picture.{GraphTree}
-use Rattle.yt_graph.specs.WellFormed.{IsWellFormed}
 use Rattle.yt_log.specs.declared.job.Job.{Job}
 use Rattle.yt_log.specs.declared.plan.PlanItem.{PlanItem}
 use Rattle.yt_log.specs.Tasks.{Has}
 use Rattle.yt_log.specs.Ticks.{Ticks, done, IsLawful}
-use Rattle.yt_rates.specs.Faults.{IsWithinRates}
-use Rattle.yt_rates.specs.Tables.{tasks_of}
 use Rattle.yt_serial.specs.declared.shown.OutLine.{OutLine}
 use Rattle.yt_serial.specs.declared.trace.Message.{Message}
 use Rattle.yt_serial.specs.Judged.{IsSchedulable}
 use Rattle.yt_serial.specs.PortMessages.{PortMessage}
-use Rattle.yt_serial.specs.SerialHandling.{Handled, Serial, handle_message, handled_along, plan_of_log, start}
+use Rattle.yt_serial.specs.SerialHandling.{Serial, handle_message, handled_along, plan_of_log, start}
 use Rattle.yt_serial.specs.Told.{AllHandled, BeginsInOrder, IsPromisedRun}
-use Rattle.yt_serial.specs.Traces.{KeepsPeriods}
 use Rattle.yt_interleave.specs.Interleaved.{ActiveJob, RunState, first_state, with_begun, with_idle}
 use Rattle.yt_serial.specs.Variables.{variables_at}
 use Rattle.yt_interleave.specs.Moves.{MayBegin, after_tick, active_job, Interleaves, IsOver}
@@ -32,18 +28,19 @@ BeginsKeepSerial =
     (job : Job) (m : PortMessage) → MayBegin g s r job m →
     Interleaves g trace (handle_message g job m s) (after_tick g (active_job job m s) (with_begun job m s.vars r))
 
--- in each other tick of a job it stays where it is
+-- in a further tick of a job serial handling doesn't change
 abbrev pub TicksKeepSerial : Type 0
 TicksKeepSerial =
     (g : GraphTree) (trace : List Message) → CanRun g trace → (s : Serial) (r : RunState) → Interleaves g trace s r →
     (port : ℕ) (b : ActiveJob) → r.active port ≡ Some b → Interleaves g trace s (after_tick g b r)
 
--- and so in an idle tick
+-- nor in an idle tick
 abbrev pub IdlingKeepsSerial : Type 0
 IdlingKeepsSerial =
     (g : GraphTree) (trace : List Message) → CanRun g trace → (s : Serial) (r : RunState) → Interleaves g trace s r → Interleaves g trace s (with_idle r)
 
--- what holds when all is over: the log tells the run of serial handling along its order of beginning, and the variables are those of serial handling
+-- when all messages are handled: handling them one at a time in the order in which the log's jobs begin is defined, and handles all; the
+-- log runs just these jobs, each to its end and each port's in order; and the variables are those of serial handling
 pub record HasHandledAll (g : GraphTree) (trace : List Message) (s : Serial) (r : RunState) : Type 0 where
   pub along : handled_along g trace r.log ≡ Some s
   pub all : AllHandled g s
@@ -63,7 +60,8 @@ VariablesAreWritten =
     (more : Ticks) (whole : Serial) → handled_along g trace (r.log ++ more) ≡ Some whole →
     variables_at (start g trace).vars whole.handled (r.log ++ more) (length r.log) ≡ r.vars
 
--- where the log is the rule's for a legal plan that goes with the run, it keeps every promise of a run
+-- when all messages are handled, the log is the rule's for a legal plan that goes with the run, and the lines and the end are told, the
+-- log keeps every promise of a run
 abbrev pub EndsArePromised : Type 0
 EndsArePromised =
     (g : GraphTree) (trace : List Message) → IsSchedulable g trace → (s : Serial) (r : RunState) → Interleaves g trace s r → IsOver g s r →

@@ -1,12 +1,10 @@
 -- The messages of outputs, and what is shown of them.
-use Rattle.std.specs.Prelude.{◌≡◌, ℕ, ◌==◌, nat_lt, false, List, [], ◌∷◌, length, if◌then◌else◌}
+use Rattle.std.specs.Prelude.{◌≡◌, ℕ, ◌==◌, nat_lt, List, [], ◌∷◌, length, if◌then◌else◌}
 use Rattle.std.specs.Option.{unwrap_or}
 use Rattle.yt_graph.specs.Picture.{GraphTree}
-use Rattle.yt_log.specs.Tasks.{Has}
 use Rattle.yt_serial.specs.declared.shown.OutLine.{OutLine}
 use Rattle.yt_serial.specs.PortMessages.{PortMessage, numbered}
 use Rattle.yt_serial.specs.SerialHandling.{Serial, shown}
-use Rattle.yt_serial.specs.Told.{line_before}
 use Rattle.yt_interleave.specs.Interleaved.{RunState, to_come, added, output_feeds}
 use Rattle.yt_serial.specs.Lines.{lines_of, AreInLineOrder}
 
@@ -14,7 +12,7 @@ use Rattle.yt_serial.specs.Lines.{lines_of, AreInLineOrder}
 abbrev pub messages_to : List (List PortMessage) → ℕ → List PortMessage
 messages_to outputs n = unwrap_or (numbered outputs n) []
 
--- the lines of serial handling are those of the known messages and of those that the jobs under way will pass on
+-- the lines of serial handling are those of the known messages and of those that the active jobs will pass on
 pub record KnowsLines (g : GraphTree) (s : Serial) (r : RunState) : Type 0 where
   pub count : length r.outputs ≡ length g.outputs
   pub lines : (n : ℕ) → lines_of n s.lines ≡ shown n (messages_to (added (to_come g r.active) (output_feeds g) r.outputs) n)

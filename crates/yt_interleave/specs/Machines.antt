@@ -1,4 +1,4 @@
--- The machine of a job that is under way, among others: it makes the very ticks that it would make alone.
+-- The machine of an active job, among others: it makes the very ticks that it would make alone.
 use Rattle.std.specs.Prelude.{◌≡◌, ℕ, zero, suc, ◌+◌, ◌<◌, ◌≤◌, ℤ, List, ◌++◌, length, Option, Some, None}
 use Rattle.yt_graph.specs.Picture.{GraphTree, PortTree}
 use Rattle.yt_graph.specs.Meaning.{Handling, handling}
@@ -61,7 +61,7 @@ abbrev pub ticks_left : List Instr → ℕ → State → List ℤ → ℕ
 ticks_left instrs zero m vars = 0
 ticks_left instrs (suc fuel) m vars = left_by (instruction_step instrs m vars) (ticks_left instrs fuel)
 
--- each tick of a job that is under way is one of its machine alone, and its machine has as many ticks left as the handling
+-- each tick of an active job is one of its machine alone, and its machine has as many ticks left as the handling
 pub record MachinesGoOn : Type 0 where
   pub ticks :
       (g : GraphTree) (trace : List Message) → CanRun g trace → (s : Serial) (r : RunState) → Interleaves g trace s r →

@@ -3,12 +3,10 @@ use Rattle.std.specs.Prelude.{◌≡◌, ℕ, suc, ◌+◌, ◌<◌, ◌≤◌, 
 use Rattle.yt_graph.specs.Picture.{GraphTree, PortTree}
 use Rattle.yt_log.specs.declared.job.Job.{Job}
 use Rattle.yt_log.specs.declared.plan.PlanItem.{PlanItem}
-use Rattle.yt_log.specs.Laws.{RuleKeeps}
 use Rattle.yt_log.specs.Tasks.{Has}
 use Rattle.yt_log.specs.Ticks.{Ticks}
 use Rattle.yt_exec.specs.StandsFor.{with_cost}
 use Rattle.yt_rates.specs.Rates.{period_of}
-use Rattle.yt_rates.specs.Tables.{tasks_of}
 use Rattle.yt_serial.specs.declared.shown.OutLine.{OutLine}
 use Rattle.yt_serial.specs.declared.trace.Message.{Message}
 use Rattle.yt_serial.specs.Beginnings.{busy_until, nth_job}
@@ -17,11 +15,10 @@ use Rattle.yt_serial.specs.SerialHandling.{Serial, messages_at, handled_of, show
 use Rattle.yt_serial.specs.Told.{latest, IsPromisedRun}
 use Rattle.yt_interleave.specs.Interleaved.{ActiveJob, RunState, known_at, whole_of, first_state, with_begun, with_idle}
 use Rattle.yt_serial.specs.Variables.{variables_at}
-use Rattle.yt_serial.specs.Laws.{CanRun}
 use Rattle.yt_serial.specs.Lines.{lines_of, AreInLineOrder}
 use Rattle.yt_interleave.specs.Lines.{messages_to, come_at, HasShown}
-use Rattle.yt_interleave.specs.Moves.{MayBegin, after_tick, active_job, Interleaves, IsOver}
-use Rattle.yt_interleave.specs.Timing.{HasEnded, IsOnTime, WaitsToBegin, IsResourceFree, IsPlanOfRun, IsRuleLog}
+use Rattle.yt_interleave.specs.Moves.{MayBegin, after_tick, active_job, Interleaves, IsOver, IsResourceFree}
+use Rattle.yt_interleave.specs.Timing.{HasEnded, IsOnTime, WaitsToBegin, IsPlanOfRun, IsRuleLog}
 use Rattle.yt_serial.specs.Judged.{IsSchedulable}
 
 -- a run between two ticks: what came before `due` is placed, released and shown
@@ -47,7 +44,7 @@ pub record AreShownNow (r : RunState) (more : List OutLine) : Type 0 where
 abbrev pub AllShown : RunState → ℕ → Type 0
 AllShown r due = (n k : ℕ) (x : PortMessage) → slice_get (messages_to r.outputs n) k ≡ Some x → x.time < due
 
--- how a run goes on, and to what it comes
+-- how a run goes on, and what is promised of it where it has come to its end
 pub record RunsGoOn : Type 0 where
   pub starts : (g : GraphTree) (trace : List Message) → IsSchedulable g trace → IsRunning g trace (start g trace) (first_state g trace) 0 [] []
   -- what comes at a tick is placed, released and shown
@@ -62,7 +59,7 @@ pub record RunsGoOn : Type 0 where
       IsRuleLog g (with_cost job (whole_of g (active_job job m s)).ticks plan) (r.log ++ Some job ∷ []) →
       IsRunning g trace (handle_message g job m s) (after_tick g (active_job job m s) (with_begun job m s.vars r)) (suc (length r.log))
       (with_cost job (whole_of g (active_job job m s)).ticks plan) lines
-  -- a job that is under way has a tick
+  -- an active job has a tick
   pub ticks :
       (g : GraphTree) (trace : List Message) → IsSchedulable g trace → (s : Serial) (r : RunState) (plan : List PlanItem) (lines : List OutLine) →
       IsRunning g trace s r (suc (length r.log)) plan lines → (port : ℕ) (b : ActiveJob) → r.active port ≡ Some b →
@@ -76,7 +73,8 @@ pub record RunsGoOn : Type 0 where
       (g : GraphTree) (trace : List Message) → IsSchedulable g trace → (s : Serial) (r : RunState) (due : ℕ) (plan : List PlanItem) (lines : List OutLine) →
       IsRunning g trace s r due plan lines → IsOver g s r → AllShown r due → length r.log ≡ max (busy_until r.log (length r.log)) (latest lines) → IsPromisedRun g trace r.log lines
 
--- when the log ends with the last job and the last line: after a tick that went to a job, and where a line was shown now
+-- when the log ends with the last job and the last line: where its last tick went to a job, where a line is shown at its end, and where
+-- it is empty
 pub record RunsEnd : Type 0 where
   pub busy :
       (g : GraphTree) (trace : List Message) (s : Serial) (r : RunState) (due : ℕ) (plan : List PlanItem) (lines : List OutLine) →
@@ -99,12 +97,12 @@ pub record RunsAreOnTime : Type 0 where
   pub may_begin :
       (g : GraphTree) (trace : List Message) → IsSchedulable g trace → (s : Serial) (r : RunState) → Interleaves g trace s r → IsOnTime g s r →
       (job : Job) (m : PortMessage) → WaitsToBegin r job m → IsResourceFree g r job.task → MayBegin g s r job m
-  -- so it is where a log of the rule goes on with the job
+  -- a job's resource is free where the rule gives it the next tick
   pub free :
       (g : GraphTree) (trace : List Message) → IsSchedulable g trace → (s : Serial) (r : RunState) (due : ℕ) (plan : List PlanItem) (lines : List OutLine) →
       IsRunning g trace s r due plan lines → (job : Job) (m : PortMessage) → WaitsToBegin r job m →
       (cost : ℕ) → IsRuleLog g (with_cost job cost plan) (r.log ++ Some job ∷ []) → IsResourceFree g r job.task
-  -- a message that comes now is its port's next, and no job of the port is under way
+  -- a message that comes now is its port's next, and no job of the port is active
   pub port_free :
       (g : GraphTree) (trace : List Message) → IsSchedulable g trace → (s : Serial) (r : RunState) → Interleaves g trace s r → IsOnTime g s r →
       (port n : ℕ) (m : PortMessage) → numbered (known_at r port) n ≡ Some m → m.time ≡ length r.log → (n ≡ suc (handled_of s port)) × (r.active port ≡ None)
@@ -119,15 +117,14 @@ pub record RunsAreOnTime : Type 0 where
       (port n : ℕ) (p : PortTree) (m : PortMessage) → numbered g.ports port ≡ Some p → numbered (known_at r port) n ≡ Some m → (HasEnded s r port n → ⊥) →
       length r.log < m.time + period_of g p
 
--- a promised run's log starts with that of a moment, and its variables at the moment are the moment's
-pub record StartsWith (g : GraphTree) (trace : List Message) (r : RunState) (whole : Ticks) : Type 0 where
-  pub rest : Ticks
-  pub log : whole ≡ r.log ++ rest
+-- a run as far as it has come agrees with a whole run: the longer one of the two logs goes on from the other, and the variables now are
+-- those of the whole run at this tick, also where the whole run has ended before it
+pub record AgreesWith (g : GraphTree) (trace : List Message) (r : RunState) (whole : Ticks) : Type 0 where
+  pub goes_on : length r.log ≤ length whole → (rest : Ticks) × (whole ≡ r.log ++ rest)
   pub variables : (s : Serial) → handled_along g trace whole ≡ Some s → variables_at (start g trace).vars s.handled whole (length r.log) ≡ r.vars
 
--- a run as far as it has come is the start of each promised run that is no shorter
+-- a run as far as it has come agrees with each promised run
 abbrev pub RunsAgree : Type 0
 RunsAgree =
     (g : GraphTree) (trace : List Message) → IsSchedulable g trace → (s : Serial) (r : RunState) (due : ℕ) (plan : List PlanItem) (lines : List OutLine) →
-    IsRunning g trace s r due plan lines → length r.log ≤ due → (whole : Ticks) (all : List OutLine) → IsPromisedRun g trace whole all → length r.log ≤ length whole →
-    StartsWith g trace r whole
+    IsRunning g trace s r due plan lines → length r.log ≤ due → (whole : Ticks) (all : List OutLine) → IsPromisedRun g trace whole all → AgreesWith g trace r whole

@@ -15,14 +15,14 @@ use Rattle.yt_serial.specs.Beginnings.{busy_until, nth_job}
 use Rattle.yt_serial.specs.PortMessages.{PortMessage, numbered}
 use Rattle.yt_serial.specs.SerialHandling.{Serial, items_of, handled_of}
 use Rattle.yt_serial.specs.Told.{line_before, latest}
-use Rattle.yt_interleave.specs.Interleaved.{ActiveJob, RunState, group_at, known_at}
+use Rattle.yt_interleave.specs.Interleaved.{ActiveJob, RunState, known_at}
 
 -- the handling of a port's message of a number has ended
 pub record HasEnded (s : Serial) (r : RunState) (port n : ℕ) : Type 0 where
   pub handled : n ≤ handled_of s port
   pub not_active : (b : ActiveJob) → r.active port ≡ Some b → b.job.number ≡ n → ⊥
 
--- each known message whose port's period is over has been handled
+-- each known message whose deadline has come has been handled to its end
 abbrev pub IsOnTime : GraphTree → Serial → RunState → Type 0
 IsOnTime g s r =
     (port n : ℕ) (p : PortTree) (m : PortMessage) → numbered g.ports port ≡ Some p → numbered (known_at r port) n ≡ Some m →
@@ -34,18 +34,14 @@ pub record WaitsToBegin (r : RunState) (job : Job) (m : PortMessage) : Type 0 wh
   pub arrived : m.time ≤ length r.log
   pub fresh : done r.log job (length r.log) ≡ 0
 
--- no job that is under way is under the resource of a port, where the port is under one
-abbrev pub IsResourceFree : GraphTree → RunState → ℕ → Type 0
-IsResourceFree g r task = (port : ℕ) (b : ActiveJob) → r.active port ≡ Some b → 0 < group_at g task → group_at g port ≡ group_at g task → ⊥
-
--- a plan has the items of all jobs that have begun; each of its items is of a known message, which came before `due`; and each known message that came before `due` has an item
+-- a plan goes with a run: it has the items of all jobs that have begun; each of its items is of a known message, which came before `due`; and each known message that came before `due` has an item
 pub record IsPlanOfRun (s : Serial) (r : RunState) (due : ℕ) (plan : List PlanItem) : Type 0 where
   pub begun : (z : PlanItem) → Has (items_of s) z → Has plan z
   pub known : (z : PlanItem) → Has plan z → (m : PortMessage) × (numbered (known_at r z.job.task) z.job.number ≡ Some m) × (m.time ≡ z.arrival)
   pub early : (z : PlanItem) → Has plan z → z.arrival < due
   pub all : (port n : ℕ) (m : PortMessage) → numbered (known_at r port) n ≡ Some m → m.time < due → (z : PlanItem) × (Has plan z) × (z.job ≡ nth_job port n)
 
--- a plan is legal for the graph's tasks, and the log is the rule's for it
+-- a plan is legal for the graph's tasks, and each tick of the log went where the rule gives it
 pub record IsRuleLog (g : GraphTree) (plan : List PlanItem) (log : Ticks) : Type 0 where
   pub legal : IsLegal (tasks_of g) plan
   pub rule : IsEdfDdm (tasks_of g) plan log

@@ -44,10 +44,11 @@ pub record MessagesWait : Type 0 where
       (g : GraphTree) (trace : List Message) → CanRun g trace → (s : Serial) (r : RunState) → Interleaves g trace s r →
       (b : ActiveJob) (due : ℕ) → due ≤ b.message.time + period_of g (port_at g b.job.task) → (n : ℕ) (o : Output) → numbered g.outputs n ≡ Some o →
       wait_from due (messages_to (with_end g b r).outputs n) ≡ wait_from due (messages_to r.outputs n) ++ brought b.job.task (passes_of g b) (Out o.port o.out)
-  -- of the messages that wait from a tick on, those of the tick come first; of a port at most one
+  -- of the messages that wait from a tick on, those of the tick come first
   pub port_comes :
       (g : GraphTree) (trace : List Message) → CanRun g trace → (s : Serial) (r : RunState) → Interleaves g trace s r →
       (port t : ℕ) → wait_from t (known_at r port) ≡ come_at t (known_at r port) ++ wait_from (suc t) (known_at r port)
+  -- at a port at most one comes at a tick
   pub port_one :
       (g : GraphTree) (trace : List Message) → CanRun g trace → (s : Serial) (r : RunState) → Interleaves g trace s r →
       (port t : ℕ) → length (come_at t (known_at r port)) ≤ 1
@@ -55,7 +56,7 @@ pub record MessagesWait : Type 0 where
       (g : GraphTree) (trace : List Message) → CanRun g trace → (s : Serial) (r : RunState) → Interleaves g trace s r →
       (n t : ℕ) → wait_from t (messages_to r.outputs n) ≡ come_at t (messages_to r.outputs n) ++ wait_from (suc t) (messages_to r.outputs n)
   -- when a later job's message has come, what a job passed on before the last one that passed has come too: so the messages of an out
-  -- that wait while a job of its port is under way come of one job at most
+  -- that wait while a job of its port is active come of one job at most
   pub old_come :
       (g : GraphTree) (trace : List Message) → CanRun g trace → (s : Serial) (r : RunState) → Interleaves g trace s r →
       (port n earlier last j : ℕ) (p : PortTree) (m first : PortMessage) (out : ℕ) → numbered g.ports port ≡ Some p →

@@ -1,7 +1,6 @@
 -- One task whose jobs run alone: each arrives when the one before is done, and runs from then on.
 use Rattle.std.specs.Prelude.{◌≡◌, ℕ, suc, ◌+◌, ◌-◌, ◌<◌, ◌≤◌, List, [], ◌∷◌, ◌++◌, Some, None, length, map, replicate}
 use Rattle.yt_set.specs.declared.task.Task.{Task}
-use Rattle.yt_log.specs.declared.job.Job.{Job}
 use Rattle.yt_log.specs.declared.plan.PlanItem.{PlanItem}
 use Rattle.yt_log.specs.EdfDdm.{IsEdfDdm}
 use Rattle.yt_log.specs.Plan.{IsLegal}

@@ -1,14 +1,14 @@
 -- What is judged of a log and output lines is all that is promised of a run.
-use Rattle.std.proofs.Common.{◌≡◌, ℕ, zero, suc, ◌+◌, ◌<◌, ◌≤◌, List, [], ◌∷◌, ◌++◌, length, Option, None, Some, refl, sym, ap, subst, ◌∙◌, ⊎_elim, arith}
+use Rattle.std.proofs.Common.{◌≡◌, ℕ, zero, suc, ◌<◌, ◌≤◌, List, [], ◌∷◌, ◌++◌, length, Some, sym, ap, subst, ◌∙◌, ⊎_elim, arith}
 use Rattle.std.proofs.lemmas.Bool.{cases_lt}
 use Rattle.std.proofs.lemmas.Option.{none-some, option_and_then_some}
-use Rattle.yt_graph.specs.Picture.{GraphTree, PortTree}
+use Rattle.yt_graph.specs.Picture.{GraphTree}
 use Rattle.yt_set.specs.declared.task.Task.{Task}
 use Rattle.yt_log.specs.declared.job.Job.{Job}
 use Rattle.yt_log.specs.declared.plan.PlanItem.{PlanItem}
 use Rattle.yt_log.specs.Plan.{deadline_of, IsLegal}
 use Rattle.yt_log.specs.Tasks.{Has}
-use Rattle.yt_log.specs.Ticks.{Ticks, tick, done, first_tick, KeepsDeadlines}
+use Rattle.yt_log.specs.Ticks.{Ticks, done, first_tick, KeepsDeadlines}
 use Rattle.yt_log.proofs.Appends.{jobs_none}
 use Rattle.yt_log.proofs.Demands.{deadline_is}
 use Rattle.yt_log.proofs.Exclusions.{rule_is_safe}
@@ -19,11 +19,11 @@ use Rattle.yt_rates.specs.Rates.{period_of}
 use Rattle.yt_rates.specs.Tables.{tasks_of}
 use Rattle.yt_serial.specs.declared.shown.OutLine.{OutLine}
 use Rattle.yt_serial.specs.declared.trace.Message.{Message}
-use Rattle.yt_serial.specs.Beginnings.{begun_below, nth_job, order_of}
+use Rattle.yt_serial.specs.Beginnings.{begun_below, order_of}
 use Rattle.yt_serial.specs.Judged.{IsJudgedRun, IsSchedulable, RunsAreJudged}
 use Rattle.yt_serial.specs.PortMessages.{PortMessage, numbered}
 use Rattle.yt_serial.specs.SerialHandling.{Serial, messages_at, items_of, handled_of, start, serial_step, serial_run, plan_of_log}
-use Rattle.yt_serial.specs.Told.{BeginsInOrder, IsPromisedRun, NoneReplaced}
+use Rattle.yt_serial.specs.Told.{IsPromisedRun, NoneReplaced}
 use Rattle.yt_serial.proofs.Done.{begun_fresh}
 use Rattle.yt_serial.proofs.Orders.{begun_done}
 use Rattle.yt_serial.proofs.SerialInvariant.{Holds, port_task}

@@ -1,6 +1,6 @@
 -- A log with one tick more, and what its ticks write.
-use Rattle.std.proofs.Common.{◌≡◌, ◌⊎◌, ℕ, zero, suc, ◌+◌, ◌-◌, ◌<◌, ◌≤◌, true, false, cond, List, [], ◌∷◌, ◌++◌, length, Option, None, Some, refl, sym, ap, ap₂, subst, ◌∙◌, inl, inr, ⊎_elim, arith, append-nil}
-use Rattle.std.proofs.lemmas.Bool.{cases_eq, cases_lt, cases_Bool, cond-true, cond-false, false_from_ne_true, both_ways}
+use Rattle.std.proofs.Common.{◌≡◌, ◌⊎◌, ℕ, zero, suc, ◌+◌, ◌-◌, ◌<◌, ◌≤◌, cond, List, [], ◌∷◌, ◌++◌, length, Option, None, Some, refl, sym, ap, ap₂, ◌∙◌, inl, inr, ⊎_elim, arith, append-nil}
+use Rattle.std.proofs.lemmas.Bool.{cases_eq, cases_lt, cond-true, cond-false}
 use Rattle.std.proofs.lemmas.List.{length-append, get_or_push, get_or_past}
 use Rattle.std.proofs.lemmas.Option.{none-some}
 use Rattle.yt_graph.specs.declared.handled.Write.{Write}
@@ -25,7 +25,7 @@ unfolding writes_in
 writes_in_same handled a b t None h = refl
 writes_in_same handled a b t (Some j) h = ap (λ (n : ℕ). writes_at n (writes_of handled j)) (done_same a b j t h)
 
-writes_below_same : (handled : List Handled) (a b : Ticks) (t : ℕ) → Agree a b t → writes_below handled a t ≡ writes_below handled b t
+pub writes_below_same : (handled : List Handled) (a b : Ticks) (t : ℕ) → Agree a b t → writes_below handled a t ≡ writes_below handled b t
 unfolding writes_below
 writes_below_same handled a b zero h = refl
 writes_below_same handled a b (suc t) h =
@@ -132,16 +132,17 @@ none_past : (log : Ticks) (t : ℕ) → length log ≤ t → tick log t ≡ None
 unfolding tick
 none_past log t le = get_or_past log t None le
 
-writes_past : (handled : List Handled) (log : Ticks) (n : ℕ) → writes_below handled log (length log + n) ≡ writes_below handled log (length log)
-writes_past handled log zero = ap (writes_below handled log) (omega arith)
-writes_past handled log (suc n) =
+-- idle ticks write nothing
+pub writes_idle : (handled : List Handled) (log : Ticks) (t n : ℕ) → ((u : ℕ) → t ≤ u → tick log u ≡ None) → writes_below handled log (t + n) ≡ writes_below handled log t
+writes_idle handled log t zero idle = ap (writes_below handled log) (omega arith)
+writes_idle handled log t (suc n) idle =
     ap (writes_below handled log) (omega arith)
-    ∙ writes_below-suc handled log (length log + n)
-    ∙ ap (λ (ws : List Write). writes_below handled log (length log + n) ++ ws) (ap (writes_in handled log (length log + n)) (none_past log (length log + n) (omega arith)) ∙ writes_in_idle handled log (length log + n))
-    ∙ append-nil (writes_below handled log (length log + n))
-    ∙ writes_past handled log n
+    ∙ writes_below-suc handled log (t + n)
+    ∙ ap (λ (ws : List Write). writes_below handled log (t + n) ++ ws) (ap (writes_in handled log (t + n)) (idle (t + n) (omega arith)) ∙ writes_in_idle handled log (t + n))
+    ∙ append-nil (writes_below handled log (t + n))
+    ∙ writes_idle handled log t n idle
 
 pub variables_stay : VariablesStay
 variables_stay vars handled log t le =
     let e : t ≡ length log + (t - length log) = omega arith in
-    ap (λ (ws : List Write). after_writes ws vars) (ap (writes_below handled log) e ∙ writes_past handled log (t - length log))
+    ap (λ (ws : List Write). after_writes ws vars) (ap (writes_below handled log) e ∙ writes_idle handled log (length log) (t - length log) (none_past log))

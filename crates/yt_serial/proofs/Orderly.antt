@@ -1,9 +1,9 @@
 -- Jobs that come in the order of their numbers make a legal plan, once they are in order of arrival.
-use Rattle.std.proofs.Common.{◌≡◌, ℕ, ◌+◌, ◌≤◌, ◌⊎◌, true, false, cond, eqb, List, [], ◌∷◌, ◌++◌, refl, sym, subst, inl, inr, ⊎_elim, arith, eq-eqb, ne_eqb}
-use Rattle.std.proofs.lemmas.Bool.{cases_Bool, cond-true, cond-false}
+use Rattle.std.proofs.Common.{◌≡◌, ℕ, ◌+◌, ◌≤◌, cond, eqb, List, [], ◌∷◌, ◌++◌, refl, sym, subst, inl, inr, ⊎_elim, arith, eq-eqb, ne_eqb}
+use Rattle.std.proofs.lemmas.Bool.{cond-true, cond-false}
 use Rattle.yt_set.specs.declared.task.Task.{Task}
 use Rattle.yt_log.specs.declared.plan.PlanItem.{PlanItem}
-use Rattle.yt_log.specs.Order.{insert_by, sort_by}
+use Rattle.yt_log.specs.Order.{sort_by}
 use Rattle.yt_log.specs.Patterns.{item_before}
 use Rattle.yt_log.specs.Plan.{its_task, jobs_of, IsLegal}
 use Rattle.yt_log.specs.Tasks.{Has}

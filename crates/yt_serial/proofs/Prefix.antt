@@ -1,8 +1,8 @@
 -- What is told of a log's ticks below t goes by those ticks alone, so a log that grows keeps it.
-use Rattle.std.proofs.Common.{◌≡◌, ℕ, zero, suc, ◌+◌, ◌<◌, ◌≤◌, cond, eqb, List, [], ◌∷◌, ◌++◌, length, Option, Some, None, is_some, refl, ap, ap₂, ◌∙◌, arith}
+use Rattle.std.proofs.Common.{◌≡◌, ℕ, zero, suc, ◌≤◌, cond, eqb, List, [], ◌∷◌, ◌++◌, length, Option, Some, None, is_some, refl, ap, ap₂, ◌∙◌, arith}
 use Rattle.std.proofs.lemmas.List.{get_or_append_left}
 use Rattle.yt_log.specs.declared.job.Job.{Job}
-use Rattle.yt_log.specs.Ticks.{Ticks, tick, names, done, first_tick}
+use Rattle.yt_log.specs.Ticks.{Ticks, tick, done, first_tick}
 use Rattle.yt_log.proofs.Made.{Agree, agree_less, done_same, first_same}
 use Rattle.yt_serial.specs.Beginnings.{newcomer, begun_below, busy_until}
 

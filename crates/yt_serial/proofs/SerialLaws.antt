@@ -1,8 +1,7 @@
 -- Serial handling keeps messages apart and makes legal plans.
-use Rattle.std.proofs.Common.{◌≡◌, ℕ, List, [], Option, None, Some, All, refl}
+use Rattle.std.proofs.Common.{◌≡◌, List, [], Option, None, Some, refl}
 use Rattle.std.specs.Option.{option_map_or}
 use Rattle.yt_graph.specs.Picture.{GraphTree}
-use Rattle.yt_graph.specs.WellFormed.{IsWellFormed}
 use Rattle.yt_log.specs.declared.job.Job.{Job}
 use Rattle.yt_log.specs.Plan.{IsLegal}
 use Rattle.yt_rates.specs.Rates.{period_of}

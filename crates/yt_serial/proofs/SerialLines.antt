@@ -1,36 +1,27 @@
 -- In serial handling the times of each output's lines rise.
-use Rattle.std.proofs.Common.{◌≡◌, ◌⊎◌, ℕ, zero, suc, ◌+◌, ◌-◌, ◌*◌, ◌%◌, ◌<◌, ◌≤◌, cond, eqb, List, [], ◌∷◌, ◌++◌, length, slice_get, get_or, Option, Some, All, refl, sym, ap, subst, ◌∙◌, inl, inr, ⊎_elim, arith, append-nil, eq-eqb, ne_eqb}
+use Rattle.std.proofs.Common.{◌≡◌, ◌⊎◌, ℕ, zero, suc, ◌+◌, ◌<◌, ◌≤◌, cond, eqb, List, [], ◌∷◌, ◌++◌, length, slice_get, get_or, Option, Some, All, refl, sym, ap, subst, ◌∙◌, inl, inr, ⊎_elim, arith, append-nil, eq-eqb, ne_eqb}
 use Rattle.std.specs.Option.{unwrap_or}
 use Rattle.std.proofs.lemmas.Bool.{cases_eq, cases_lt, cond-true, cond-false}
-use Rattle.std.proofs.lemmas.List.{map_push}
-use Rattle.std.proofs.lemmas.Nat.{mul-le}
 use Rattle.std.proofs.lemmas.Option.{none-some, same_Some, option_and_then_some, slice_get-get_or}
-use Rattle.std.proofs.Math.Nat.{mod-add-div}
 use Rattle.yt_graph.specs.declared.graph.Output.{Output}
 use Rattle.yt_graph.specs.declared.handled.SendItem.{SendItem}
 use Rattle.yt_graph.specs.declared.port.Feed.TheVariants.{Out}
-use Rattle.yt_graph.specs.Cost.{greatest_sends, sent_on}
 use Rattle.yt_graph.specs.Meaning.{Handling, handling}
 use Rattle.yt_graph.specs.Picture.{GraphTree, PortTree}
 use Rattle.yt_graph.specs.WellFormed.{IsWellFormed}
-use Rattle.yt_graph.proofs.Within.{sends_within}
 use Rattle.yt_log.specs.declared.job.Job.{Job}
-use Rattle.yt_log.specs.declared.plan.PlanItem.{PlanItem}
-use Rattle.yt_log.specs.Plan.{jobs_of}
 use Rattle.yt_log.specs.Tasks.{Has}
 use Rattle.yt_log.proofs.Members.{has_append}
-use Rattle.yt_log.proofs.Appends.{jobs_push_same, jobs_push_other}
 use Rattle.yt_rates.specs.Faults.{IsWithinRates}
-use Rattle.yt_rates.specs.Rates.{every_of, period_of, gap_of}
+use Rattle.yt_rates.specs.Rates.{period_of, gap_of}
 use Rattle.yt_serial.specs.declared.shown.OutLine.{OutLine}
 use Rattle.yt_serial.specs.declared.trace.Message.{Message}
 use Rattle.yt_serial.specs.PortMessages.{PortMessage, numbered, spaced, passed}
-use Rattle.yt_serial.specs.SerialHandling.{Handled, Serial, messages_at, items_of, handled_of, start, brought, shown, all_shown, no_port, port_of, serial_step, serial_run}
+use Rattle.yt_serial.specs.SerialHandling.{Serial, messages_at, handled_of, start, brought, shown, all_shown, no_port, port_of, serial_step, serial_run}
 use Rattle.yt_serial.specs.Traces.{KeepsPeriods}
-use Rattle.yt_serial.proofs.Sends.{spaced_within, next_multiple}
+use Rattle.yt_serial.proofs.Sends.{spaced_within}
 use Rattle.yt_serial.proofs.SerialInvariant.{ComesOf, Holds, after, handled_grows, handled_same, message_stays, new_within, old_ends}
-use Rattle.yt_serial.proofs.SerialStates.{placed_at, port_there, BringsOf, brings, message_there}
-use Rattle.yt_serial.proofs.Spread.{numbered_left, numbered_far}
+use Rattle.yt_serial.proofs.SerialStates.{port_there, BringsOf, brings, message_there}
 use Rattle.yt_serial.proofs.SerialRuns.{stepped, holds_stepped, serial_holds}
 use Rattle.yt_serial.proofs.LineOrder.{TimesRise, lines_same, lines_other}
 use Rattle.yt_serial.specs.Lines.{lines_of}

@@ -1,26 +1,22 @@
 -- Serial handling step by step: what a job adds, and what more jobs leave.
-use Rattle.std.proofs.Common.{◌≡◌, ◌⊎◌, ℕ, zero, suc, ◌+◌, ◌-◌, ◌<◌, ◌≤◌, false, eqb, List, [], ◌∷◌, ◌++◌, length, drop, slice_get, Option, None, Some, refl, sym, ap, ap₂, subst, ◌∙◌, inl, inr, ⊎_elim, arith, eq-eqb, ne_eqb, append_assoc, append-nil}
-use Rattle.std.specs.Option.{option_map, option_and_then, option_map_or, unwrap_or}
+use Rattle.std.proofs.Common.{◌≡◌, ◌⊎◌, ℕ, zero, suc, ◌+◌, ◌-◌, ◌<◌, ◌≤◌, List, [], ◌∷◌, ◌++◌, length, slice_get, Option, Some, refl, sym, ap, subst, ◌∙◌, inl, inr, ⊎_elim, arith}
+use Rattle.std.specs.Option.{option_and_then, option_map_or, unwrap_or}
 use Rattle.std.proofs.lemmas.Bool.{cases_eq, cases_lt}
-use Rattle.std.proofs.lemmas.List.{length-map, map_push}
-use Rattle.std.proofs.lemmas.Option.{none-some, same_Some, option_and_then_some, slice_get_within, get_or_from_slice_get, slice_get-map}
+use Rattle.std.proofs.lemmas.List.{map_push}
+use Rattle.std.proofs.lemmas.Option.{none-some, same_Some, option_and_then_some}
 use Rattle.yt_graph.specs.declared.handled.SendItem.{SendItem}
 use Rattle.yt_graph.specs.declared.port.Feed.{Feed}
 use Rattle.yt_graph.specs.Meaning.{handling}
 use Rattle.yt_graph.specs.Picture.{GraphTree, PortTree}
-use Rattle.yt_set.specs.declared.task.Task.{Task}
 use Rattle.yt_log.specs.declared.job.Job.{Job}
 use Rattle.yt_log.specs.declared.plan.PlanItem.{PlanItem}
 use Rattle.yt_log.specs.Patterns.{item_before}
 use Rattle.yt_log.specs.Plan.{jobs_of}
-use Rattle.yt_log.specs.Tasks.{Has, no_task}
-use Rattle.yt_log.specs.Tasks as numbers
+use Rattle.yt_log.specs.Tasks.{Has}
 use Rattle.yt_log.specs.Ticks.{Ticks, done}
 use Rattle.yt_log.proofs.Appends.{has_push, jobs_push_same, jobs_push_other}
-use Rattle.yt_log.proofs.Demands.{task_of-suc}
 use Rattle.yt_log.proofs.Members.{has_last, has_left, has_sorted, sorted_has}
 use Rattle.yt_rates.specs.Rates.{period_of}
-use Rattle.yt_rates.specs.Tables.{task_of, tasks_of}
 use Rattle.yt_serial.specs.declared.trace.Message.{Message}
 use Rattle.yt_serial.specs.Beginnings.{begun_below, nth_job, order_of}
 use Rattle.yt_serial.specs.Laws.{CanRun}
@@ -28,7 +24,7 @@ use Rattle.yt_serial.specs.PortMessages.{PortMessage, numbered, passed}
 use Rattle.yt_serial.specs.SerialHandling.{Handled, Serial, messages_at, items_of, handled_of, brought, start, no_port, port_of, handle_message, message_of, serial_step, serial_run, plan_of, plan_of_log}
 use Rattle.yt_serial.proofs.Orders.{goes_on}
 use Rattle.yt_serial.proofs.Sends.{spaced_within}
-use Rattle.yt_serial.proofs.SerialInvariant.{Holds, port_task}
+use Rattle.yt_serial.proofs.SerialInvariant.{Holds}
 use Rattle.yt_serial.proofs.SerialRuns.{holds_stepped, serial_holds, stepped}
 use Rattle.yt_serial.proofs.SerialStates.{BringsOf, brings, message_there, placed_at, port_there}
 use Rattle.yt_serial.proofs.Spread.{get_cases, numbered_left}

@@ -1,9 +1,9 @@
 -- Two promised runs of one graph on one trace are one.
-use Rattle.std.proofs.Common.{◌≡◌, ◌⊎◌, ℕ, zero, suc, ◌+◌, ◌-◌, ◌<◌, ◌≤◌, false, eqb, List, [], ◌∷◌, ◌++◌, length, drop, slice_get, Option, None, Some, refl, sym, ap, ap₂, subst, ◌∙◌, inl, inr, ⊎_elim, arith, eq-eqb, ne_eqb, append_assoc, append-nil}
+use Rattle.std.proofs.Common.{◌≡◌, ℕ, zero, suc, ◌<◌, ◌≤◌, false, List, [], ◌∷◌, length, Option, None, Some, refl, sym, ap, ap₂, subst, ◌∙◌, ⊎_elim, arith}
 use Rattle.std.proofs.lemmas.Bool.{cases_eq, cases_lt, false_from_ne_true}
 use Rattle.std.proofs.lemmas.List.{length-map, ext_get_or}
 use Rattle.std.proofs.lemmas.Option.{none-some, same_Some, option_and_then_some, slice_get_within}
-use Rattle.yt_graph.specs.Picture.{GraphTree, PortTree}
+use Rattle.yt_graph.specs.Picture.{GraphTree}
 use Rattle.yt_set.specs.declared.task.Task.{Task}
 use Rattle.yt_log.specs.declared.job.Job.{Job}
 use Rattle.yt_log.specs.declared.plan.PlanItem.{PlanItem}
@@ -27,7 +27,7 @@ use Rattle.yt_serial.specs.declared.trace.Message.{Message}
 use Rattle.yt_serial.specs.Beginnings.{begun_below, nth_job, order_of}
 use Rattle.yt_serial.specs.Laws.{CanRun}
 use Rattle.yt_serial.specs.PortMessages.{PortMessage, numbered}
-use Rattle.yt_serial.specs.SerialHandling.{Serial, messages_at, items_of, handled_of, start, serial_step, serial_run, plan_of_log}
+use Rattle.yt_serial.specs.SerialHandling.{Serial, messages_at, items_of, start, serial_step, serial_run, plan_of_log}
 use Rattle.yt_serial.specs.Told.{line_before, latest, AllHandled, IsPromisedRun}
 use Rattle.yt_serial.proofs.Done.{busy_until_le}
 use Rattle.yt_serial.proofs.Orders.{done_begun}
@@ -169,7 +169,7 @@ unfolding tick
 same_log a b e agree = ext_get_or None a b e (λ i h. agree i h)
 
 -- where all messages are handled, serial handling goes no further
-no_more : (g : GraphTree) (trace : List Message) (can : CanRun g trace) (s : Serial) → Holds g s → AllHandled g s → (later : List Job) (t : Serial) → serial_run g later s ≡ Some t → s ≡ t
+pub no_more : (g : GraphTree) (trace : List Message) (can : CanRun g trace) (s : Serial) → Holds g s → AllHandled g s → (later : List Job) (t : Serial) → serial_run g later s ≡ Some t → s ≡ t
 no_more g trace can s holds all [] t along = same_Some s t along
 no_more g trace can s holds all (j ∷ later) t along =
     option_and_then_some {P = s ≡ t} (serial_run g later) (serial_step g j s) t along

@@ -12,8 +12,8 @@ mod shown;
 mod trace;
 
 pub use laws::{
-    log_plans_are_legal, messages_are_apart, messages_are_bounded, plans_are_legal, runs_are_judged,
-    variables_stay,
+    log_plans_are_legal, messages_are_apart, messages_are_bounded, plans_are_legal,
+    runs_are_judged, variables_stay,
 };
 pub use shown::{OutLine, Outs};
 pub use trace::{Message, Trace};
