@@ -25,13 +25,10 @@ use Rattle.yt_exec.specs.StandsFor.{entry_of, last_release, StandsFor, GoesOn, i
 use Rattle.yt_exec.proofs.Changes.{changed, changed_job, changed_arrival, changed_yes, changed_no, job_or_not, has_with, has_from, releases_with, legal_with, like_with}
 use Rattle.yt_exec.proofs.LongerLogs.{done_ran, done_else, entry_not, entry_else, entry_ran, same_order}
 use Rattle.yt_exec.proofs.Releases.{IsUpTo, last_number, last_latest, push_yes, push_no}
+use Rattle.yt_log.proofs.Members.{has_last}
 
 some_other : (a b : Job) → (b ≡ a → ⊥) → Some a ≡ Some b → ⊥
 some_other a b ne e = ne (let h : a ≡ b = cc in sym h)
-
-has_last : (xs : List PlanItem) (y : PlanItem) → Has (xs ++ y ∷ []) y
-has_last [] y = inl refl
-has_last (x ∷ xs) y = inr (has_last xs y)
 
 has_front : (xs : List PlanItem) (y i : PlanItem) → Has xs i → Has (xs ++ y ∷ []) i
 has_front [] y i has = absurd has

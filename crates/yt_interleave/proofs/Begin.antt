@@ -55,7 +55,7 @@ module _ (g : GraphTree) (well : IsWellFormed g) (rates : All (IsWithinRates g) 
           ap (λ (ms : List (List PortMessage)). unwrap_or (numbered ms (suc k)) []) stands.messages ∙ placed_at (to_come g r.active) g.ports r.messages k p stands.long is in
           subst (λ (ms : List PortMessage). numbered ms n ≡ Some m) (sym here) (numbered_left (known_at r (suc k)) (to_come g r.active p.feed) n m there)
 
-  -- no two jobs that are under way use one variable
+  -- no two jobs that are active use one variable
   pub not_both : (p q : ℕ) (b c : ActiveJob) → r.active p ≡ Some b → r.active q ≡ Some c → (p ≡ q → ⊥) → (v : ℕ) → Uses g p v → Uses g q v → ⊥
   not_both p q b c at_p at_q ne v h k = let both = shared g well p q v h k in stands.exclusive p q b c at_p at_q ne both.0 both.1
 
@@ -106,7 +106,7 @@ module _ (g : GraphTree) (well : IsWellFormed g) (rates : All (IsWithinRates g) 
         (λ (ge : done r.log job (length r.log) ≤ 0). omega arith)
         (cases_lt 0 (done r.log job (length r.log)))
 
-    -- no job under way uses a variable of this one
+    -- no active job uses a variable of this one
     none_uses : (v : ℕ) → Uses g job.task v → IsInUse g r.active v → ⊥
     none_uses v h (p, c, at_p, k) =
         let both = shared g well job.task p v h k in
@@ -162,7 +162,7 @@ module _ (g : GraphTree) (well : IsWellFormed g) (rates : All (IsWithinRates g) 
       later = λ v k. refl;
     }
 
-    -- the variables of another job under way stay in serial handling too
+    -- the variables of another active job stay in serial handling too
     kept_other : (port : ℕ) (c : ActiveJob) → r.active port ≡ Some c → (v : ℕ) → Uses g port v → value_at s'.vars v ≡ value_at s.vars v
     kept_other port c at_port v uses =
         ap (λ (xs : List ℤ). value_at xs v) written.vars_after
@@ -231,7 +231,7 @@ module _ (g : GraphTree) (well : IsWellFormed g) (rates : All (IsWithinRates g) 
         (λ (e : (port ≡ job.task → ⊥) × (r.active port ≡ Some c)). stands.known port c e.1)
         (at_cases port c h)
 
-    -- a job under way stays
+    -- a active job stays
     stays : (port : ℕ) (c : ActiveJob) → r.active port ≡ Some c → active' port ≡ Some c
     stays port c at_port =
         put_other job.task (Some b) r.active port (λ e. none-some c (sym may.idle ∙ ap r.active (sym e) ∙ at_port)) ∙ at_port

@@ -10,7 +10,7 @@ use Rattle.yt_serial.specs.PortMessages.{PortMessage, passed}
 use Rattle.yt_chan.specs.declared.wire.Wire.{Wire}
 use Rattle.yt_chan.specs.Traffic.{passed_over}
 use Rattle.yt_chan.specs.Waiting as waiting
-use Rattle.yt_interleave.specs.Carrying.{as_message, IsWireOf}
+use Rattle.yt_interleave.specs.Carrying.{as_message, IsTimedAs}
 use Rattle.yt_interleave.specs.Waits.{MessagesWait, timed}
 
 as_timed : (number time gap : ℕ) (messages : List (List ℤ)) → map as_message (waiting.timed number time gap messages) ≡ timed time gap messages
@@ -22,7 +22,7 @@ as_either true messages = refl
 as_either false messages = refl
 
 -- by the law `messages_wait`: what `close_job` leaves to wait is what the run's job passes on
-pub as_passed : MessagesWait → (g : GraphTree) (p : PortTree) (n : ℕ) (wire : Wire) (job : Job) (arrival : ℕ) (sends : List SendItem) → IsWireOf g job.task p n wire →
+pub as_passed : MessagesWait → (g : GraphTree) (p : PortTree) (n : ℕ) (wire : Wire) (job : Job) (arrival : ℕ) (sends : List SendItem) → IsTimedAs g job.task p n wire →
     map as_message (passed_over wire (messages_on n sends) job arrival) ≡ passed g p job.number arrival sends n
 as_passed law g p n wire job arrival sends is =
     let ms = messages_on n sends in

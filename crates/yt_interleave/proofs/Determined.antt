@@ -1,6 +1,7 @@
 -- A run as far as it has come is the start of each promised run.
-use Rattle.std.proofs.Common.{◌≡◌, ℕ, zero, suc, ◌+◌, ◌-◌, ◌<◌, ◌≤◌, eqb, List, [], ◌∷◌, ◌++◌, length, drop, slice_get, Option, None, Some, refl, sym, ap, subst, ◌∙◌, ⊎_elim, arith, eq-eqb}
+use Rattle.std.proofs.Common.{◌≡◌, ℕ, zero, suc, ◌+◌, ◌-◌, ◌<◌, ◌≤◌, eqb, List, [], ◌∷◌, ◌++◌, length, drop, replicate, slice_get, Option, None, Some, refl, sym, ap, ap₂, subst, ◌∙◌, ⊎_elim, arith, eq-eqb}
 use Rattle.std.specs.Option.{unwrap_or}
+use Rattle.std.proofs.lemmas.List.{get_or-drop, length-append}
 use Rattle.std.proofs.lemmas.Bool.{cases_lt, cond-true}
 use Rattle.std.proofs.lemmas.Option.{none-some, same_Some}
 use Rattle.yt_graph.specs.declared.port.Feed.{Feed}
@@ -14,7 +15,7 @@ use Rattle.yt_log.specs.Ticks.{Ticks, tick, done}
 use Rattle.yt_log.proofs.Ticks.{done_grows}
 use Rattle.yt_serial.specs.declared.shown.OutLine.{OutLine}
 use Rattle.yt_serial.specs.declared.trace.Message.{Message}
-use Rattle.yt_serial.specs.Judged.{IsSchedulable}
+use Rattle.yt_serial.specs.Premises.{IsSchedulable}
 use Rattle.yt_serial.specs.PortMessages.{PortMessage, numbered}
 use Rattle.yt_serial.specs.Beginnings.{order_of}
 use Rattle.yt_serial.specs.SerialHandling.{Serial, messages_at, items_of, brought, start, serial_run, plan_of_log, handled_along}
@@ -38,6 +39,20 @@ prefix_is (x ∷ xs) [] le agree = absurd (omega arith)
 prefix_is (x ∷ xs) (y ∷ ys) le agree =
     ap (λ (o : Option Job). o ∷ ys) (sym (agree 0 (omega arith)))
     ∙ ap (λ (os : Ticks). x ∷ os) (prefix_is xs ys (omega arith) (λ u lt. agree (suc u) (omega arith)))
+
+-- a log with another's ticks and idle ones behind them
+idle_tail : (xs ys : Ticks) → length xs ≤ length ys → Agree xs ys (length xs) → ((u : ℕ) → length xs ≤ u → tick ys u ≡ None) → ys ≡ xs ++ replicate (length ys - length xs) None
+unfolding tick
+idle_tail xs ys le agree idle =
+    let e = prefix_is xs ys le agree in
+    let rest = drop (length xs) ys in
+    let long : length ys ≡ length xs + length rest = ap length e ∙ length-append xs rest in
+    let all : rest ≡ replicate (length rest) None = all_idle rest (λ k. get_or-drop (length xs) ys k None ∙ idle (length xs + k) (omega arith)) in
+    e ∙ ap (λ (os : Ticks). xs ++ os) (all ∙ ap (λ (n : ℕ). replicate n None) (omega arith))
+  where
+    all_idle : (os : Ticks) → ((k : ℕ) → tick os k ≡ None) → os ≡ replicate (length os) None
+    all_idle [] idle = refl
+    all_idle (o ∷ os) idle = ap₂ (λ (x : Option Job) (xs : Ticks). x ∷ xs) (idle 0) (all_idle os (λ k. idle (suc k)))
 
 module _ (g : GraphTree) (trace : List Message) (able : IsSchedulable g trace) (s : Serial) (r : own.RunState) (due : ℕ) (plan : List PlanItem) (shown : List OutLine)
     (is : IsRunning g trace s r due plan shown) (low : length r.log ≤ due) where
@@ -96,7 +111,7 @@ module _ (g : GraphTree) (trace : List Message) (able : IsSchedulable g trace) (
       (drop (length r.log) log, prefix_is r.log log le agree)
 
   -- where it is shorter, no job had a tick after its end
-  module _ (log : Ticks) (lines : List OutLine) (p : IsPromisedRun g trace log lines) (lt : length log < length r.log) where
+  module _ (log : Ticks) (lines : List OutLine) (p : IsPromisedRun g trace log lines) (lt : length log ≤ length r.log) where
     agree : Agree r.log log (length log)
     agree = agree_to g trace able.can r.log log s p.tells.serial plan (plan_of_log g trace log) running_is (promised_is g trace able.can log lines p) (length log) (omega arith) (omega arith)
 
@@ -139,11 +154,19 @@ module _ (g : GraphTree) (trace : List Message) (able : IsSchedulable g trace) (
         ∙ ap (λ (ws : List Write). after_writes ws (start g trace).vars) (sym same_writes)
         ∙ sym is.interleaves.stands.written
 
+  -- so it goes on with idle ticks alone
+  idles_on : (log : Ticks) (lines : List OutLine) → IsPromisedRun g trace log lines → length log ≤ length r.log → r.log ≡ log ++ replicate (length r.log - length log) None
+  idles_on log lines p le =
+      let here = agree log lines p le in
+      let idle = idle_after log lines p le in
+      idle_tail log r.log le (λ u lt. sym (here u lt)) idle
+
   agrees_with : (log : Ticks) (lines : List OutLine) → IsPromisedRun g trace log lines → AgreesWith g trace r log
   agrees_with log lines p = record {
     goes_on = longer log lines p;
+    idles_on = idles_on log lines p;
     variables = λ w along. ⊎_elim
-        (λ (lt : length log < length r.log). past_end log lines p lt w along)
+        (λ (lt : length log < length r.log). past_end log lines p (omega arith) w along)
         (λ (ge : length r.log ≤ length log).
         let more = longer log lines p ge in
         subst (λ (l : Ticks). variables_at (start g trace).vars w.handled l (length r.log) ≡ r.vars) (sym more.1)

@@ -23,7 +23,7 @@ use Rattle.yt_interleave.specs.Executives.{HasLeft, GivesFirstTick, StillStandsF
 use Rattle.yt_interleave.specs.Interleaved as own
 use Rattle.yt_interleave.specs.Interleaved.{ActiveJob, whole_of, with_begun, with_idle}
 use Rattle.yt_interleave.specs.Moves.{MayBegin, after_tick, active_job}
-use Rattle.yt_serial.specs.Judged.{IsSchedulable}
+use Rattle.yt_serial.specs.Premises.{IsSchedulable}
 use Rattle.yt_interleave.specs.Runs.{IsRunning}
 use Rattle.yt_interleave.specs.Timing.{IsRuleLog}
 use Rattle.yt_interleave.proofs.Executives.{executives_follow}

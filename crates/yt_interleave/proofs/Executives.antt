@@ -4,7 +4,7 @@ use Rattle.std.specs.List.{Contains}
 use Rattle.std.specs.Option.{unwrap_or}
 use Rattle.std.proofs.lemmas.Bool.{cases_eq, cases_lt, cond-true, cond-false, both_ways}
 use Rattle.std.proofs.lemmas.List.{length-map, get_or_past}
-use Rattle.std.proofs.lemmas.Option.{none-some, same_Some, slice_get_within, slice_get-get_or}
+use Rattle.std.proofs.lemmas.Option.{none-some, same_Some, slice_get-get_or}
 use Rattle.yt_graph.specs.Picture.{GraphTree, PortTree}
 use Rattle.yt_set.specs.declared.task.Task.{Task}
 use Rattle.yt_log.specs.declared.job.Job.{Job}
@@ -14,7 +14,6 @@ use Rattle.yt_log.specs.Tasks.{Has}
 use Rattle.yt_log.specs.Ticks.{Ticks, done, IsWaiting}
 use Rattle.yt_log.proofs.Plans.{one_item, good_item}
 use Rattle.yt_ready.specs.declared.entry.Entry.{Entry}
-use Rattle.yt_exec.specs.Bodies.{IsFree}
 use Rattle.yt_exec.specs.Moments.{Moment, job_in}
 use Rattle.yt_exec.specs.StandsFor.{StandsFor, entry_of}
 use Rattle.yt_rates.specs.Tables.{task_of, tasks_of}
@@ -26,13 +25,12 @@ use Rattle.yt_interleave.specs.Executives.{HasLeft, AllReleased, ExecutivesFollo
 use Rattle.yt_interleave.specs.Interleaved as own
 use Rattle.yt_interleave.specs.Interleaved.{ActiveJob, port_at, group_at, known_at, to_come, put, whole_of, item_of, with_begun, with_tick, with_end}
 use Rattle.yt_serial.specs.Beginnings.{nth_job}
-use Rattle.yt_interleave.specs.Moves.{MayBegin, after_tick, active_job, IsOver, IsResourceFree}
-use Rattle.yt_serial.specs.Judged.{IsSchedulable}
+use Rattle.yt_interleave.specs.Moves.{MayBegin, after_tick, active_job, AllKnownHandled}
+use Rattle.yt_serial.specs.Premises.{IsSchedulable}
 use Rattle.yt_interleave.specs.Runs.{IsRunning}
 use Rattle.yt_interleave.specs.Timing.{WaitsToBegin}
-use Rattle.yt_serial.proofs.Lemmas.{done_this, port_task}
-use Rattle.yt_interleave.proofs.Over.{to_come_none}
-use Rattle.yt_interleave.proofs.Pieces.{placed_none, put_same}
+use Rattle.yt_serial.proofs.Lemmas.{done_this, port_task, numbered_within}
+use Rattle.yt_interleave.proofs.Pieces.{placed_none, put_same, to_come_none}
 use Rattle.yt_interleave.proofs.Steps.{after_last, after_other}
 use Rattle.yt_interleave.proofs.Timing.{serial}
 
@@ -73,7 +71,7 @@ group_is g n = by (numbered g.ports n) refl
 
 module _ (g : GraphTree) (trace : List Message) (able : IsSchedulable g trace) (s : Serial) (r : own.RunState) (due : ℕ) (plan : List PlanItem) (lines : List OutLine)
     (is : IsRunning g trace s r due plan lines) (moment : Moment) (left : Job → ℕ) (stands : StandsFor moment left plan r.log) where
-  -- an item of the plan that has begun and waits is under way
+  -- an item of the plan that has begun and waits is active
   active_item : (z : PlanItem) → Has plan z → 0 < done r.log z.job (length r.log) → done r.log z.job (length r.log) < z.cost → (b : ActiveJob) × (r.active z.job.task ≡ Some b) × (b.job ≡ z.job)
   active_item z has begun unfinished =
       let y = is.interleaves.stands.named z.job begun in
@@ -106,7 +104,7 @@ module _ (g : GraphTree) (trace : List Message) (able : IsSchedulable g trace) (
       (a.0, ap r.active (ap (λ (j : Job). j.task) job) ∙ a.1, a.2 ∙ sym job)
 
   -- no item of the plan waits
-  over : length r.log ≤ due → due ≤ suc (length r.log) → AllReleased r due → moment.entries ≡ [] → IsOver g s r
+  over : length r.log ≤ due → due ≤ suc (length r.log) → AllReleased r due → moment.entries ≡ [] → AllKnownHandled g s r
   over low high placed none =
       let idle : (z : PlanItem) → Has plan z → IsWaiting r.log (length r.log) z → ⊥ = λ z has w. no_entry (entry_of moment.tasks r.log z) (subst (λ es. Contains es (entry_of moment.tasks r.log z)) none (stands.waiting z has w)) in
       let quiet : (port : ℕ) → r.active port ≡ None = λ port. none_at port (r.active port) refl idle in
@@ -125,10 +123,6 @@ module _ (g : GraphTree) (trace : List Message) (able : IsSchedulable g trace) (
       numbered_last [] = inl refl
       numbered_last (m ∷ ms) = inr (get_or (m ∷ ms) (length ms) m, slice_get-get_or (m ∷ ms) (length ms) m (omega arith))
 
-      numbered_within : (ms : List PortMessage) (n : ℕ) (m : PortMessage) → numbered ms n ≡ Some m → n ≤ length ms
-      numbered_within ms zero m h = omega arith
-      numbered_within ms (suc n) m h = let k = slice_get_within ms n m h in omega arith
-
       all_at : (port : ℕ) → ((z : PlanItem) → Has plan z → IsWaiting r.log (length r.log) z → ⊥) → ((p : ℕ) → r.active p ≡ None) → handled_of s port ≡ length (known_at r port)
       all_at port idle quiet =
           let st = is.interleaves.stands in
@@ -144,7 +138,7 @@ module _ (g : GraphTree) (trace : List Message) (able : IsSchedulable g trace) (
           let there : numbered (known_at r port) (handled_of s port) ≡ Some of.message =
           ap (λ (ms : List (List PortMessage)). numbered (unwrap_or (numbered ms port) []) (handled_of s port)) (sym same)
           ∙ ap (λ (j : Job). numbered (messages_at s j.task) j.number) (sym z.2) ∙ of.there in
-          numbered_within (known_at r port) (handled_of s port) of.message there)
+          (numbered_within (known_at r port) (handled_of s port) of.message there).1)
           (cases_eq (handled_of s port) 0) in
           -- and each known one is handled
           let least : length (known_at r port) ≤ handled_of s port =
@@ -169,17 +163,6 @@ module _ (g : GraphTree) (trace : List Message) (able : IsSchedulable g trace) (
           (cases_lt (done r.log z.0.job (length r.log)) z.0.cost))
           (numbered_last (known_at r port)) in
           omega arith
-
-free : (g : GraphTree) (r : own.RunState) (left : Job → ℕ) → HasLeft g r left → (job : Job) → IsFree (tasks_of g) left job
-    → ((port : ℕ) (b : ActiveJob) → r.active port ≡ Some b → (b.job.task ≡ port) × (done r.log b.job (length r.log) < (whole_of g b).ticks)) → IsResourceFree g r job.task
-free g r left has job is_free going port b at_port some same =
-    let here = going port b at_port in
-    let a = has.active port b at_port in
-    let lt = here.1 in
-    let mine = group_is g job.task in
-    let other = group_is g port in
-    let task : (numbers.task_of (tasks_of g) b.job.task).resource ≡ (numbers.task_of (tasks_of g) port).resource = ap (λ (n : ℕ). (numbers.task_of (tasks_of g) n).resource) here.0 in
-    is_free (omega arith) b.job (omega arith) (task ∙ sym other ∙ same ∙ mine)
 
 cost : (g : GraphTree) (trace : List Message) → IsSchedulable g trace → (s : Serial) (r : own.RunState) (job : Job) (m : PortMessage) → MayBegin g s r job m
     → done r.log job (length r.log) ≡ 0 → (left : Job → ℕ) → HasLeft g (after_tick g (active_job job m s) (with_begun job m s.vars r)) left
@@ -207,7 +190,6 @@ pub executives_follow : ExecutivesFollow
 executives_follow = record {
   pending = λ g trace able s r due plan lines is moment left stands entry has fresh. pending g trace able s r due plan lines is moment left stands entry has fresh;
   under_way = λ g trace able s r due plan lines is moment left stands entry has begun. under_way g trace able s r due plan lines is moment left stands entry has begun;
-  free = λ g r left has job is_free going. free g r left has job is_free going;
   over = λ g trace able s r due plan lines is low high placed moment left stands none. over g trace able s r due plan lines is moment left stands low high placed none;
   cost = λ g trace able s r job m may fresh left has. cost g trace able s r job m may fresh left has;
 }

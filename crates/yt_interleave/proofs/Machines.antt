@@ -23,7 +23,7 @@ use Rattle.yt_serial.specs.PortMessages.{PortMessage}
 use Rattle.yt_serial.specs.SerialHandling.{Serial}
 use Rattle.yt_serial.specs.Variables.{after_writes, writes_at}
 use Rattle.yt_interleave.specs.Interleaved.{ActiveJob, RunState, port_at, value_at, whole_of}
-use Rattle.yt_serial.specs.Laws.{CanRun}
+use Rattle.yt_serial.specs.Premises.{CanRun}
 use Rattle.yt_interleave.specs.Machines.{IsAloneAt, GoesOnAlone, EndsAlone, IsTickOf, left_more, left_by, ticks_left, MachinesGoOn}
 use Rattle.yt_interleave.specs.Moves.{MayBegin, Interleaves}
 use Rattle.yt_interleave.proofs.Begin as begin

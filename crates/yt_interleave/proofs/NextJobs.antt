@@ -21,10 +21,10 @@ use Rattle.yt_serial.specs.PortMessages.{PortMessage, numbered}
 use Rattle.yt_serial.specs.SerialHandling.{Serial}
 use Rattle.yt_interleave.specs.Interleaved as own
 use Rattle.yt_interleave.specs.Interleaved.{known_at}
-use Rattle.yt_serial.specs.Judged.{IsSchedulable}
+use Rattle.yt_serial.specs.Premises.{IsSchedulable}
 use Rattle.yt_interleave.specs.Runs.{IsRunning}
-use Rattle.yt_interleave.proofs.Timing.{known_port, known_first, apart, period_some, number_before, number_some}
-use Rattle.yt_serial.proofs.Lemmas.{port_task}
+use Rattle.yt_interleave.proofs.Timing.{known_port, known_first, apart, number_before}
+use Rattle.yt_serial.proofs.Lemmas.{port_task, numbered_within, period_some}
 use Rattle.yt_serial.specs.Beginnings.{nth_job}
 
 -- no item has a greater number than its task has items
@@ -149,7 +149,7 @@ module _ (g : GraphTree) (trace : List Message) (able : IsSchedulable g trace) (
   count_is =
       let l = is_last.number in
       let z0 = jobs_none port in
-      let some = number_some (known_at r port) n m there in
+      let some = (numbered_within (known_at r port) n m there).0 in
       let p = known_port g trace able.can s r is.interleaves port n m there in
       let period = period_some g port p.0 able.can.rates p.1 in
       let low : (last_release no_release port wider).number < n =

@@ -1,12 +1,10 @@
 -- When all is over the log tells the run of serial handling; and at each moment the variables are what the ticks so far have written.
-use Rattle.std.proofs.Common.{◌≡◌, ℕ, zero, suc, ◌+◌, ◌<◌, ◌≤◌, List, [], ◌∷◌, ◌++◌, length, Option, None, Some, refl, sym, ap, subst, ◌∙◌, inl, inr, ⊎_elim, arith}
+use Rattle.std.proofs.Common.{◌≡◌, ℕ, suc, ◌+◌, ◌<◌, ◌≤◌, List, [], ◌∷◌, ◌++◌, length, Option, Some, refl, sym, ap, subst, ◌∙◌, inl, inr, ⊎_elim, arith}
 use Rattle.std.specs.Prelude.{ℤ}
 use Rattle.std.specs.Option.{option_map_or, unwrap_or}
 use Rattle.std.proofs.lemmas.List.{length-append}
 use Rattle.std.proofs.lemmas.Option.{none-some, same_Some, option_and_then_some}
 use Rattle.yt_graph.specs.declared.handled.Write.{Write}
-use Rattle.yt_graph.specs.declared.port.Feed.{Feed}
-use Rattle.yt_graph.specs.declared.port.Feed.TheVariants.{Input, Out}
 use Rattle.yt_graph.specs.Meaning.{handling}
 use Rattle.yt_graph.specs.Picture.{GraphTree}
 use Rattle.yt_log.specs.declared.job.Job.{Job}
@@ -22,23 +20,16 @@ use Rattle.yt_serial.specs.Beginnings.{begun_below, order_of, nth_job}
 use Rattle.yt_serial.specs.PortMessages.{PortMessage, numbered}
 use Rattle.yt_serial.specs.SerialHandling.{Handled, Serial, messages_at, items_of, start, port_of, serial_step, serial_run, plan_of, plan_of_log}
 use Rattle.yt_serial.specs.Told.{AllHandled, BeginsInOrder}
-use Rattle.yt_serial.proofs.Lemmas.{begun_below-append, plans_are_legal, feed_cases, port_there, numbered_apart, stepped, writes_below_more, writes_below_prefix, goes_on, run_rest}
+use Rattle.yt_serial.proofs.Lemmas.{begun_below-append, plans_are_legal, port_there, numbered_apart, stepped, writes_below_more, writes_below_prefix, goes_on, run_rest, numbered_within}
 use Rattle.yt_rates.specs.Rates.{period_of}
 use Rattle.yt_rates.specs.Tables.{tasks_of}
 use Rattle.yt_serial.specs.Variables.{after_writes, writes_below}
-use Rattle.yt_interleave.specs.Interleaved.{ActiveJob, RunState, value_at, passed_by, to_come, item_of, IsInUse, MatchesSerial}
-use Rattle.yt_serial.specs.Laws.{CanRun}
+use Rattle.yt_interleave.specs.Interleaved.{ActiveJob, RunState, value_at, to_come, item_of, IsInUse, MatchesSerial}
+use Rattle.yt_serial.specs.Premises.{CanRun}
 use Rattle.yt_interleave.specs.Laws.{HasHandledAll, EndsAreSerial, VariablesAreWritten}
-use Rattle.yt_interleave.specs.Moves.{Interleaves, IsOver}
+use Rattle.yt_interleave.specs.Moves.{Interleaves, AllKnownHandled}
 use Rattle.yt_interleave.proofs.Begin.{serial}
-use Rattle.yt_interleave.proofs.Pieces.{placed_none}
-
-pub to_come_none : (g : GraphTree) (active : ℕ → Option ActiveJob) → ((port : ℕ) → active port ≡ None) → (f : Feed) → to_come g active f ≡ []
-to_come_none g active none f =
-    ⊎_elim
-    (λ (i : (input : ℕ) × (f ≡ Input input)). ap (to_come g active) i.1)
-    (λ (o : (source out : ℕ) × (f ≡ Out source out)). ap (to_come g active) o.2 ∙ ap (λ (b : Option ActiveJob). passed_by g b o.1) (none o.0))
-    (feed_cases f)
+use Rattle.yt_interleave.proofs.Pieces.{placed_none, to_come_none}
 
 -- lists of one length with the same values
 pub same_values : (vs us : List ℤ) → length vs ≡ length us → ((v : ℕ) → value_at vs v ≡ value_at us v) → vs ≡ us
@@ -61,7 +52,7 @@ module _ (g : GraphTree) (trace : List Message) (can : CanRun g trace) (s : Seri
   plan_has : (z : PlanItem) → Has (items_of s) z → Has (plan_of_log g trace r.log) z
   plan_has z has = subst (λ (is : List PlanItem). Has is z) (sym plan_is) (sorted_has item_before (items_of s) z has)
 
-  module _ (over : IsOver g s r) where
+  module _ (over : AllKnownHandled g s r) where
     not_active : (z : PlanItem) → (b : ActiveJob) × (r.active z.job.task ≡ Some b) × (z ≡ item_of g b) → ⊥
     not_active z (b, at, e) = none-some b (sym (over.none z.job.task) ∙ at)
 
@@ -94,10 +85,6 @@ module _ (g : GraphTree) (trace : List Message) (can : CanRun g trace) (s : Seri
         let b = early.below in
         omega arith
 
-    number_some : (ms : List PortMessage) (n : ℕ) (m : PortMessage) → numbered ms n ≡ Some m → 1 ≤ n
-    number_some ms zero m h = absurd (none-some m h)
-    number_some ms (suc n) m h = omega arith
-
     cost_some : (z : PlanItem) → Has (items_of s) z → 1 ≤ z.cost
     cost_some z has =
         let legal = plans_are_legal g trace (order_of r.log) s (record { can = can; along = stands.along }) in
@@ -121,7 +108,7 @@ module _ (g : GraphTree) (trace : List Message) (can : CanRun g trace) (s : Seri
         let hy = in_plan y has_y in
         let holds = serial g can.well_formed can.rates trace can.keeps (order_of r.log) s r stands in
         let a = holds.items x hx in
-        (arrive_in_turn x y hx hy task lt, in_turn x y hx hy (number_some (messages_at s x.job.task) x.job.number a.message a.there) (cost_some y hy) task lt)
+        (arrive_in_turn x y hx hy task lt, in_turn x y hx hy (numbered_within (messages_at s x.job.task) x.job.number a.message a.there).0 (cost_some y hy) task lt)
 
     same_at : (v : ℕ) → value_at r.vars v ≡ value_at s.vars v
     same_at v =

@@ -9,6 +9,8 @@ use Rattle.yt_graph.specs.Picture.{GraphTree, PortTree}
 use Rattle.yt_serial.specs.PortMessages.{PortMessage}
 use Rattle.yt_serial.specs.SerialHandling.{placed, brought}
 use Rattle.yt_interleave.specs.Interleaved.{ActiveJob, put, added, to_come, passed_by, passes_of}
+use Rattle.yt_serial.proofs.Lemmas.{feed_cases}
+use Rattle.yt_graph.specs.declared.port.Feed.TheVariants.{Input, Out}
 
 pub put_same : {X : Type 0} (n : ℕ) (x : X) (f : ℕ → X) (m : ℕ) → m ≡ n → put n x f m ≡ x
 put_same n x f m e = cond-true (eqb m n) x (f m) (eq-eqb m n e)
@@ -70,7 +72,7 @@ added_at a (g ∷ feeds) [] k f long there = absurd (omega arith)
 added_at a (g ∷ feeds) (before ∷ ms) zero f long there = ap (λ (o : Option Feed). before ++ a (unwrap_or o f)) there
 added_at a (g ∷ feeds) (before ∷ ms) (suc k) f long there = added_at a feeds ms k f (omega arith) there
 
--- a job that begins adds its messages to those that are on their way
+-- a job that begins adds its messages to those that are to be passed on
 pub to_come_begun : (g : GraphTree) (active : ℕ → Option ActiveJob) (task : ℕ) (b : ActiveJob) → active task ≡ None → (f : Feed)
     → to_come g active f ++ brought task (passes_of g b) f ≡ to_come g (put task (Some b) active) f
 to_come_begun g active task b free (feed.TheVariants.Input input) = refl
@@ -99,3 +101,11 @@ to_come_ended g active task b there (feed.TheVariants.Out port out) =
     let new : passed_by g (put task None active port) out ≡ passed_by g (active port) out = ap (λ (o : Option ActiveJob). passed_by g o out) (put_other task None active port ne) in
     ap (λ (x : List PortMessage). x ++ passed_by g (put task None active port) out) (cond-false (eqb port task) (passes_of g b out) [] (ne_eqb port task ne)) ∙ new)
     (cases_eq port task)
+
+-- nothing is to come where no job is active
+pub to_come_none : (g : GraphTree) (active : ℕ → Option ActiveJob) → ((port : ℕ) → active port ≡ None) → (f : Feed) → to_come g active f ≡ []
+to_come_none g active none f =
+    ⊎_elim
+    (λ (i : (input : ℕ) × (f ≡ Input input)). ap (to_come g active) i.1)
+    (λ (o : (source out : ℕ) × (f ≡ Out source out)). ap (to_come g active) o.2 ∙ ap (λ (b : Option ActiveJob). passed_by g b o.1) (none o.0))
+    (feed_cases f)

@@ -1,8 +1,8 @@
 -- The plan of an executive goes with the interleaved run through each kind of tick, and has at the end the items of serial handling.
-use Rattle.std.proofs.Common.{◌≡◌, ◌⊎◌, ℕ, zero, suc, ◌+◌, ◌<◌, ◌≤◌, false, List, [], ◌∷◌, ◌++◌, length, slice_get, Option, None, Some, sym, ap, subst, ◌∙◌, inl, inr, ⊎_elim, arith}
+use Rattle.std.proofs.Common.{◌≡◌, ◌⊎◌, ℕ, zero, suc, ◌+◌, ◌<◌, false, List, [], ◌∷◌, ◌++◌, length, slice_get, Option, None, Some, sym, ap, subst, ◌∙◌, inl, inr, ⊎_elim, arith}
 use Rattle.std.proofs.lemmas.Bool.{cases_eq, false_from_ne_true}
 use Rattle.std.proofs.lemmas.List.{map_push}
-use Rattle.std.proofs.lemmas.Option.{none-some, same_Some, slice_get_within}
+use Rattle.std.proofs.lemmas.Option.{none-some, same_Some}
 use Rattle.yt_graph.specs.Picture.{GraphTree, PortTree}
 use Rattle.yt_set.specs.declared.task.Task.{Task}
 use Rattle.yt_log.specs.declared.job.Job.{Job}
@@ -23,10 +23,10 @@ use Rattle.yt_serial.specs.declared.trace.Message.{Message}
 use Rattle.yt_serial.specs.Beginnings.{order_of, nth_job}
 use Rattle.yt_serial.specs.PortMessages.{PortMessage, numbered}
 use Rattle.yt_serial.specs.SerialHandling.{Handled, Serial, items_of, brought, handle_message}
-use Rattle.yt_serial.proofs.Lemmas.{placed_at, placed-length, port_there, get_cases, numbered_left, length_push}
+use Rattle.yt_serial.proofs.Lemmas.{placed_at, placed-length, port_there, get_cases, numbered_left, length_push, numbered_within}
 use Rattle.yt_interleave.specs.Interleaved.{ActiveJob, RunState, port_at, known_at, whole_of, item_of, passes_of, with_begun, with_tick, with_end, with_idle}
-use Rattle.yt_serial.specs.Laws.{CanRun}
-use Rattle.yt_interleave.specs.Moves.{MayBegin, after_tick, active_job, Interleaves, IsOver}
+use Rattle.yt_serial.specs.Premises.{CanRun}
+use Rattle.yt_interleave.specs.Moves.{MayBegin, after_tick, active_job, Interleaves, AllKnownHandled}
 use Rattle.yt_interleave.specs.Timing.{IsPlanOfRun}
 use Rattle.yt_interleave.proofs.Begin as begin
 use Rattle.yt_log.proofs.Members.{has_append, has_left, has_right}
@@ -204,7 +204,7 @@ idles s r plan goes = record {
 }
 
 -- when all is over the plan has the very items of serial handling
-pub only_begun : (g : GraphTree) (trace : List Message) (can : CanRun g trace) (s : Serial) (r : RunState) (is : Interleaves g trace s r) → IsOver g s r
+pub only_begun : (g : GraphTree) (trace : List Message) (can : CanRun g trace) (s : Serial) (r : RunState) (is : Interleaves g trace s r) → AllKnownHandled g s r
     → (plan : List PlanItem) (due : ℕ) → IsPlanOfRun s r due plan → IsLegal (tasks_of g) plan → (z : PlanItem) → Has plan z → Has (items_of s) z
 only_begun g trace can s r is over plan due goes legal z has =
     let k = goes.known z has in
@@ -215,7 +215,3 @@ only_begun g trace can s r is over plan due goes legal z has =
     let y = is.stands.all z.job.task z.job.number n.0 (omega arith) in
     let same : y.0 ≡ z = one_item (tasks_of g) plan legal y.0 z (goes.begun y.0 y.1) has y.2 in
     subst (λ (x : PlanItem). Has (items_of s) x) same y.1
-  where
-    numbered_within : {X : Type 0} (xs : List X) (n : ℕ) (x : X) → numbered xs n ≡ Some x → (1 ≤ n) × (n ≤ length xs)
-    numbered_within xs zero x h = absurd (none-some x h)
-    numbered_within xs (suc n) x h = let k = slice_get_within xs n x h in (omega arith, omega arith)

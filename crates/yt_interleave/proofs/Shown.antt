@@ -1,12 +1,11 @@
--- The lines of serial handling are those of the known messages and of those on their way; what was shown at the end is all of them, in order.
+-- The lines of serial handling are those of the known messages and of those to be passed on; what was shown at the end is all of them, in order.
 use Rattle.std.proofs.Common.{◌≡◌, ℕ, zero, suc, ◌+◌, ◌<◌, ◌≤◌, false, eqb, ltb, List, [], ◌∷◌, ◌++◌, length, map, slice_get, get_or, Option, None, Some, refl, sym, ap, subst, ◌∙◌, inl, inr, ⊎_elim, arith, append-nil, eq-eqb, ne_eqb, lt-ltb, le-ltb}
 use Rattle.std.specs.Option.{option_map, unwrap_or}
 use Rattle.std.proofs.lemmas.Bool.{cases_eq, cases_lt, cond-true, cond-false}
 use Rattle.std.proofs.lemmas.List.{length-map}
 use Rattle.std.proofs.lemmas.Option.{slice_get-get_or, slice_get_past, slice_get-map}
 use Rattle.yt_graph.specs.declared.graph.Output.{Output}
-use Rattle.yt_graph.specs.declared.port.Feed.{Feed}
-use Rattle.yt_graph.specs.declared.port.Feed.TheVariants.{Input, Out}
+use Rattle.yt_graph.specs.declared.port.Feed.TheVariants.{Out}
 use Rattle.yt_graph.specs.Picture.{GraphTree}
 use Rattle.yt_log.specs.declared.job.Job.{Job}
 use Rattle.yt_log.specs.Order.{sort_by}
@@ -18,11 +17,11 @@ use Rattle.yt_serial.specs.PortMessages.{PortMessage}
 use Rattle.yt_serial.specs.SerialHandling.{Serial, brought, shown, all_shown, start, handle_message}
 use Rattle.yt_serial.specs.Told.{line_before}
 use Rattle.yt_log.proofs.Members.{has_append}
-use Rattle.yt_serial.proofs.Lemmas.{feed_cases, lines_append, all_before, all_at, all_past, LinesHold, TimesRise, from_not, lines_has, sorted_is}
-use Rattle.yt_interleave.specs.Interleaved.{ActiveJob, RunState, port_at, passes_of, passed_by, put, to_come, added, output_feeds, first_state, with_begun, with_tick, with_end}
+use Rattle.yt_serial.proofs.Lemmas.{lines_append, all_before, all_at, all_past, LinesHold, TimesRise, from_not, lines_has, sorted_is}
+use Rattle.yt_interleave.specs.Interleaved.{ActiveJob, RunState, port_at, passes_of, put, to_come, added, output_feeds, first_state, with_begun, with_tick, with_end}
 use Rattle.yt_serial.specs.Lines.{lines_of, AreInLineOrder}
 use Rattle.yt_interleave.specs.Lines.{messages_to, KnowsLines, come_before, come_at, HasShown}
-use Rattle.yt_interleave.proofs.Pieces.{added_twice, added_none, added_at, added-length, to_come_begun, to_come_ended}
+use Rattle.yt_interleave.proofs.Pieces.{added_twice, added_none, added_at, added-length, to_come_begun, to_come_ended, to_come_none}
 use Rattle.yt_interleave.proofs.Timing.{passes_late}
 
 shown-append : (n : ℕ) (xs ys : List PortMessage) → shown n (xs ++ ys) ≡ shown n xs ++ shown n ys
@@ -93,13 +92,6 @@ knows_ended g s r b at_task knows =
 
 pub knows_tick : (g : GraphTree) (s : Serial) (r : RunState) (b : ActiveJob) → KnowsLines g s r → KnowsLines g s (with_tick g b r)
 knows_tick g s r b knows = record { count = knows.count; lines = knows.lines }
-
-to_come_none : (g : GraphTree) (active : ℕ → Option ActiveJob) → ((port : ℕ) → active port ≡ None) → (f : Feed) → to_come g active f ≡ []
-to_come_none g active none f =
-    ⊎_elim
-    (λ (i : (input : ℕ) × (f ≡ Input input)). ap (to_come g active) i.1)
-    (λ (o : (source out : ℕ) × (f ≡ Out source out)). ap (to_come g active) o.2 ∙ ap (λ (b : Option ActiveJob). passed_by g b o.1) (none o.0))
-    (feed_cases f)
 
 empties : {X : Type 0} (outputs : List X) (k : ℕ) → unwrap_or (slice_get (map (λ (o : X). let none : List PortMessage = [] in none) outputs) k) [] ≡ []
 empties [] k = refl

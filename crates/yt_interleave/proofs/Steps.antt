@@ -3,8 +3,6 @@ use Rattle.std.proofs.Common.{◌≡◌, ℕ, suc, ◌+◌, ◌<◌, eqb, List, 
 use Rattle.std.proofs.lemmas.Bool.{cases_eq, cond-true, cond-false}
 use Rattle.std.proofs.lemmas.List.{length-map}
 use Rattle.std.proofs.lemmas.Option.{none-some, same_Some}
-use Rattle.yt_graph.specs.declared.port.Feed.{Feed}
-use Rattle.yt_graph.specs.declared.port.Feed.TheVariants.{Input, Out}
 use Rattle.yt_graph.specs.Picture.{GraphTree, PortTree}
 use Rattle.yt_log.specs.declared.job.Job.{Job}
 use Rattle.yt_log.specs.Ticks.{Ticks, tick, done}
@@ -13,10 +11,10 @@ use Rattle.yt_log.proofs.Appends.{jobs_none}
 use Rattle.yt_serial.specs.declared.trace.Message.{Message}
 use Rattle.yt_serial.specs.Beginnings.{begun_below, order_of}
 use Rattle.yt_serial.specs.SerialHandling.{Serial, start, from_outside, handle_message}
-use Rattle.yt_serial.proofs.Lemmas.{begun_fresh, begun_again, begun_idle, begun_below-append, feed_cases, length_push, tick_last, done_before, done_this, done_other, writes_below_zero}
+use Rattle.yt_serial.proofs.Lemmas.{begun_fresh, begun_again, begun_idle, begun_below-append, length_push, tick_last, done_before, done_this, done_other, writes_below_zero}
 use Rattle.yt_serial.specs.Variables.{after_writes}
 use Rattle.yt_interleave.specs.Interleaved.{ActiveJob, RunState, port_at, whole_of, put, to_come, first_state, with_begun, with_tick, with_end, with_idle, MatchesSerial}
-use Rattle.yt_serial.specs.Laws.{CanRun}
+use Rattle.yt_serial.specs.Premises.{CanRun}
 use Rattle.yt_interleave.specs.Laws.{StartsSerial, BeginsKeepSerial, TicksKeepSerial, IdlingKeepsSerial}
 use Rattle.yt_interleave.specs.Lines.{KnowsLines}
 use Rattle.yt_interleave.specs.Moves.{after_tick, active_job, Interleaves}
@@ -25,7 +23,7 @@ use Rattle.yt_interleave.proofs.End as end
 use Rattle.yt_interleave.proofs.Tick as ticks
 use Rattle.yt_interleave.proofs.HandlerWrites.{handling_written}
 use Rattle.yt_interleave.proofs.Shown.{knows_begun, knows_ended, knows_tick, knows_first}
-use Rattle.yt_interleave.proofs.Pieces.{put_same, put_cases, placed_none}
+use Rattle.yt_interleave.proofs.Pieces.{put_same, put_cases, placed_none, to_come_none}
 
 -- the order of beginning with one tick more
 begun_push : (log : Ticks) (o : Option Job) → begun_below (log ++ o ∷ []) (length log) ≡ order_of log
@@ -58,7 +56,7 @@ after_other g b r e =
     cond-false (eqb (done r.log b.job (length r.log) + 1) (whole_of g b).ticks) (with_end g b (with_tick g b r)) (with_tick g b r) (ne_eqb (done r.log b.job (length r.log) + 1) (whole_of g b).ticks e)
 
 module _ (g : GraphTree) (trace : List Message) (can : CanRun g trace) where
-  -- a tick of a job that is under way, where all others have begun and not ended
+  -- a tick of a job that is active, where all others have begun and not ended
   module _ (order : List Job) (s : Serial) (r : RunState) (stands : MatchesSerial g trace order s r) (port : ℕ) (b : ActiveJob) (at_port : r.active port ≡ Some b)
       (left : done r.log b.job (length r.log) < (whole_of g b).ticks)
       (begun : (p : ℕ) (c : ActiveJob) → (p ≡ port → ⊥) → r.active p ≡ Some c → 0 < done r.log c.job (length r.log))
@@ -156,13 +154,6 @@ idling_keeps_serial g trace can s r is =
       lines = record { count = is.lines.count; lines = is.lines.lines };
     }
 
-to_come_none : (g : GraphTree) (f : Feed) → to_come g (λ port. None) f ≡ []
-to_come_none g f =
-    ⊎_elim
-    (λ (i : (input : ℕ) × (f ≡ Input input)). ap (to_come g (λ port. None)) i.1)
-    (λ (o : (source out : ℕ) × (f ≡ Out source out)). ap (to_come g (λ port. None)) o.2)
-    (feed_cases f)
-
 order_none : order_of [] ≡ []
 unfolding begun_below
 order_none = refl
@@ -178,7 +169,7 @@ first_stands g trace = record {
   exclusive = λ p q b c at_p at_q ne some same. absurd (none-some b at_p);
   known = λ p b at_p. absurd (none-some b at_p);
   long = length-map g.ports (λ (p : PortTree). from_outside trace p.feed);
-  messages = sym (placed_none (to_come g (λ port. None)) (to_come_none g) g.ports (start g trace).messages (length-map g.ports (λ (p : PortTree). from_outside trace p.feed)));
+  messages = sym (placed_none (to_come g (λ port. None)) (to_come_none g (λ port. None) (λ port. refl)) g.ports (start g trace).messages (length-map g.ports (λ (p : PortTree). from_outside trace p.feed)));
   count = refl;
   others = λ v. inl refl;
   written = sym (ap (λ ws. after_writes ws (start g trace).vars) (writes_below_zero [] []));

@@ -1,4 +1,4 @@
--- A tick: of a job that is under way, or an idle one. Serial handling stays where it is.
+-- A tick: of a job that is active, or an idle one. Serial handling stays where it is.
 use Rattle.std.proofs.Common.{◌≡◌, ℕ, suc, ◌<◌, ◌≤◌, ◌⊎◌, List, [], ◌∷◌, ◌++◌, length, Option, None, Some, All, refl, sym, ap, subst, ◌∙◌, inl, inr, ⊎_elim, arith, append-nil}
 use Rattle.std.specs.Prelude.{ℤ}
 use Rattle.std.proofs.lemmas.Bool.{cases_eq}

@@ -1,7 +1,7 @@
 -- Where deadlines are kept, a port's messages are handled in turn, and none is replaced before its handling ends.
-use Rattle.std.proofs.Common.{◌≡◌, ◌⊎◌, ℕ, zero, suc, ◌+◌, ◌<◌, ◌≤◌, List, length, slice_get, get_or, Option, None, Some, All, refl, sym, ap, subst, ◌∙◌, inl, inr, ⊎_elim, arith}
+use Rattle.std.proofs.Common.{◌≡◌, ◌⊎◌, ℕ, zero, suc, ◌+◌, ◌<◌, ◌≤◌, List, length, slice_get, get_or, Option, None, Some, refl, sym, ap, subst, ◌∙◌, inl, inr, ⊎_elim, arith}
 use Rattle.std.proofs.lemmas.Bool.{cases_eq, cases_lt}
-use Rattle.std.proofs.lemmas.Option.{none-some, same_Some, slice_get_within, slice_get-get_or, get_or_from_slice_get}
+use Rattle.std.proofs.lemmas.Option.{none-some, same_Some, slice_get_within, slice_get-get_or}
 use Rattle.yt_graph.specs.declared.port.Feed.{Feed}
 use Rattle.yt_graph.specs.Picture.{GraphTree, PortTree}
 use Rattle.yt_log.specs.declared.job.Job.{Job}
@@ -13,34 +13,24 @@ use Rattle.yt_log.specs.Ticks.{done, first_tick, KeepsDeadlines}
 use Rattle.yt_log.proofs.Demands.{deadline_is}
 use Rattle.yt_log.proofs.Plans.{one_item, good_item}
 use Rattle.yt_log.proofs.Ticks.{done_grows, first_is}
-use Rattle.yt_rates.specs.Faults.{IsWithinRates}
 use Rattle.yt_rates.specs.Rates.{period_of}
 use Rattle.yt_rates.specs.Tables.{tasks_of}
 use Rattle.yt_serial.specs.declared.trace.Message.{Message}
 use Rattle.yt_serial.specs.Beginnings.{order_of, nth_job}
 use Rattle.yt_serial.specs.PortMessages.{PortMessage, numbered}
 use Rattle.yt_serial.specs.SerialHandling.{Serial, messages_at, items_of, handled_of, brought}
-use Rattle.yt_serial.proofs.Lemmas.{Holds, port_there, numbered_apart, port_task, sent_late}
+use Rattle.yt_serial.proofs.Lemmas.{Holds, port_there, numbered_apart, port_task, sent_late, numbered_within, period_some}
 use Rattle.yt_interleave.specs.Interleaved.{ActiveJob, RunState, port_at, known_at, whole_of, item_of, passes_of, MatchesSerial}
-use Rattle.yt_serial.specs.Laws.{CanRun}
+use Rattle.yt_serial.specs.Premises.{CanRun}
 use Rattle.yt_interleave.specs.Moves.{MayBegin, Interleaves, IsResourceFree}
 use Rattle.yt_interleave.specs.Timing.{HasEnded, IsOnTime, WaitsToBegin, IsPlanOfRun}
 use Rattle.yt_interleave.proofs.Begin as begin
-
-pub period_some : (g : GraphTree) (port : ℕ) (q : PortTree) → All (IsWithinRates g) g.ports → numbered g.ports port ≡ Some q → 1 ≤ period_of g q
-period_some g zero q rates there = absurd (none-some q there)
-period_some g (suc k) q rates there =
-    subst (λ (p : PortTree). 1 ≤ period_of g p) (get_or_from_slice_get g.ports k q q there) (rates k q (slice_get_within g.ports k q there)).some_period
 
 -- earlier elements are there too
 pub number_before : (ms : List PortMessage) (n k : ℕ) (m : PortMessage) → numbered ms n ≡ Some m → 1 ≤ k → k ≤ n → (x : PortMessage) × (numbered ms k ≡ Some x)
 number_before ms n zero m h some le = absurd (omega arith)
 number_before ms zero (suc k) m h some le = absurd (omega arith)
 number_before ms (suc n) (suc k) m h some le = let w = slice_get_within ms n m h in (get_or ms k m, slice_get-get_or ms k m (omega arith))
-
-pub number_some : (ms : List PortMessage) (n : ℕ) (m : PortMessage) → numbered ms n ≡ Some m → 1 ≤ n
-number_some ms zero m h = absurd (none-some m h)
-number_some ms (suc n) m h = omega arith
 
 none_or_some : {X : Type 0} (o : Option X) → (o ≡ None) ⊎ ((x : X) × (o ≡ Some x))
 none_or_some None = inl refl
@@ -86,7 +76,7 @@ module _ (g : GraphTree) (trace : List Message) (can : CanRun g trace) (s : Seri
       (cases_lt (handled_of s port) n)
 
   module _ (on_time : IsOnTime g s r) where
-    -- where the handling of a port's message has not begun, all earlier ones have been handled, and none is under way
+    -- where the handling of a port's message has not begun, all earlier ones have been handled, and none is active
     pub in_turn : (port n : ℕ) (m : PortMessage) → numbered (known_at r port) n ≡ Some m → m.time ≤ length r.log → done r.log (nth_job port n) (length r.log) ≡ 0
         → (n ≡ suc (handled_of s port)) × (r.active port ≡ None)
     in_turn port zero m there arrived none = absurd (none-some m there)
@@ -96,7 +86,7 @@ module _ (g : GraphTree) (trace : List Message) (can : CanRun g trace) (s : Seri
         ⊎_elim
         (λ (e : k ≡ 0).
         let first : handled_of s port ≡ 0 = omega arith in
-        (omega arith, none_at (r.active port) refl (λ b at. let u = stands.under_way port b at in let s1 = number_some (messages_at s port) b.job.number b.message u.there in let n1 = u.number in absurd (omega arith))))
+        (omega arith, none_at (r.active port) refl (λ b at. let u = stands.under_way port b at in let s1 = (numbered_within (messages_at s port) b.job.number b.message u.there).0 in let n1 = u.number in absurd (omega arith))))
         (λ (ne : k ≡ 0 → ⊥).
         let before = number_before (known_at r port) (suc k) k m there (omega arith) (omega arith) in
         let far = apart port k (suc k) p.0 before.0 m p.1 (known_first port k before.0 before.1) (known_first port (suc k) m there) (omega arith) in
@@ -146,7 +136,7 @@ module _ (g : GraphTree) (trace : List Message) (can : CanRun g trace) (s : Seri
       (λ (ge : done r.log (nth_job port n) (length r.log) ≤ 0). omega arith)
       (cases_lt 0 (done r.log (nth_job port n) (length r.log)))
 
-  -- so where a port's message comes now, its earlier ones have been handled and none is under way
+  -- so where a port's message comes now, its earlier ones have been handled and none is active
   pub port_free : IsOnTime g s r → (port n : ℕ) (m : PortMessage) → numbered (known_at r port) n ≡ Some m → m.time ≡ length r.log → (n ≡ suc (handled_of s port)) × (r.active port ≡ None)
   port_free on_time port n m there now = in_turn on_time port n m there (omega arith) (fresh_before port n m there (omega arith))
 

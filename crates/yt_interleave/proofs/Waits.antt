@@ -12,7 +12,7 @@ use Rattle.yt_graph.specs.declared.port.Feed.{Feed}
 use Rattle.yt_graph.specs.declared.port.Feed.TheVariants.{Input, Out}
 use Rattle.yt_graph.specs.Cost.{greatest_sends}
 use Rattle.yt_rates.specs.Faults.{IsWithinRates}
-use Rattle.yt_serial.proofs.Lemmas.{inputs_stay, next_multiple, numbered_far, placed_at, serial_holds, lines_hold, TimesRise}
+use Rattle.yt_serial.proofs.Lemmas.{inputs_stay, next_multiple, numbered_far, placed_at, serial_holds, lines_hold, TimesRise, period_some}
 use Rattle.yt_graph.specs.Picture.{GraphTree, PortTree}
 use Rattle.yt_log.specs.Tasks.{Has}
 use Rattle.yt_code.specs.Outbox.{messages_on}
@@ -23,14 +23,14 @@ use Rattle.yt_serial.specs.Beginnings.{order_of}
 use Rattle.yt_serial.specs.PortMessages.{PortMessage, numbered, messages_of, spaced}
 use Rattle.yt_serial.specs.SerialHandling.{Serial, messages_at, brought, from_outside, shown, start}
 use Rattle.yt_interleave.specs.Interleaved.{ActiveJob, RunState, port_at, known_at, passes_of, to_come, output_feeds, with_end}
-use Rattle.yt_serial.specs.Laws.{CanRun}
+use Rattle.yt_serial.specs.Premises.{CanRun}
 use Rattle.yt_interleave.specs.Lines.{messages_to, come_at}
 use Rattle.yt_interleave.specs.Moves.{Interleaves}
 use Rattle.yt_interleave.specs.Waits.{wait_from, timed, MessagesWait}
 use Rattle.yt_interleave.proofs.Pieces.{added_at}
 use Rattle.yt_interleave.proofs.Shown.{known_rise}
 use Rattle.yt_interleave.proofs.Timing as timing
-use Rattle.yt_interleave.proofs.Timing.{passes_late, period_some}
+use Rattle.yt_interleave.proofs.Timing.{passes_late}
 
 -- what is spaced out is what was sent on the out
 spaced_timed : (out time gap : ℕ) (sends : List SendItem) → spaced out time gap sends ≡ timed time gap (messages_on out sends)

@@ -24,8 +24,8 @@ use Rattle.yt_serial.proofs.Lemmas.{port_there, length_push, tick_last, done_bef
 use Rattle.yt_interleave.specs.Interleaved.{ActiveJob, RunState, port_at, group_at, known_at, whole_of, item_of, first_state, with_begun, with_tick, with_idle}
 use Rattle.yt_serial.specs.Lines.{lines_of}
 use Rattle.yt_interleave.specs.Lines.{come_before, HasShown, KnowsLines}
-use Rattle.yt_interleave.specs.Moves.{MayBegin, after_tick, active_job, Interleaves, IsOver, IsResourceFree}
-use Rattle.yt_serial.specs.Judged.{IsSchedulable}
+use Rattle.yt_interleave.specs.Moves.{MayBegin, after_tick, active_job, Interleaves, AllKnownHandled, IsResourceFree}
+use Rattle.yt_serial.specs.Premises.{IsSchedulable}
 use Rattle.yt_interleave.specs.Runs.{IsRunning, AreReleased, AreShownNow, AllShown, RunsGoOn, RunsAreOnTime}
 use Rattle.yt_interleave.specs.Timing.{HasEnded, IsOnTime, WaitsToBegin, IsPlanOfRun, IsRuleLog}
 use Rattle.yt_interleave.proofs.Executives.{group_is}
@@ -72,7 +72,7 @@ module _ (g : GraphTree) (trace : List Message) (able : IsSchedulable g trace) (
       let h = before timely job.task job.number p.0 m p.1 may.there (λ e. let a = e.handled in let b = may.number in absurd (omega arith)) in
       subst (λ (q : PortTree). length r.log < m.time + period_of g q) (sym (ap (λ (o : Option PortTree). unwrap_or o no_port) p.1)) h
 
-  -- so is that of a job that is under way
+  -- so is that of a job that is active
   pub active_before : Interleaves g trace s r → IsOnTime g s r → (port : ℕ) (b : ActiveJob) → r.active port ≡ Some b → length r.log < b.message.time + period_of g (port_at g b.job.task)
   active_before is timely port b at_port =
       let u = is.stands.under_way port b at_port in
@@ -85,7 +85,7 @@ module _ (g : GraphTree) (trace : List Message) (able : IsSchedulable g trace) (
       absurd ((timely port b.job.number q.0 b.message q.1 (is.stands.known port b at_port) ge).not_active b at_port refl))
       (cases_lt (length r.log) (b.message.time + period_of g q.0))
 
--- the rule gives no tick to a job whose resource another job has that is under way
+-- the rule gives no tick to a job whose resource another job has that is active
 resource_free : (g : GraphTree) (trace : List Message) → IsSchedulable g trace → (s : Serial) (r : RunState) (due : ℕ) (plan : List PlanItem) (lines : List OutLine)
     → IsRunning g trace s r due plan lines → (job : Job) (m : PortMessage) → WaitsToBegin r job m
     → (cost : ℕ) → IsRuleLog g (with_cost job cost plan) (r.log ++ Some job ∷ []) → IsResourceFree g r job.task
@@ -198,7 +198,7 @@ idles g trace able s r plan lines is by = record {
 }
 
 ends : (g : GraphTree) (trace : List Message) → IsSchedulable g trace → (s : Serial) (r : RunState) (due : ℕ) (plan : List PlanItem) (lines : List OutLine)
-    → IsRunning g trace s r due plan lines → IsOver g s r → AllShown r due → length r.log ≡ max (busy_until r.log (length r.log)) (latest lines) → IsPromisedRun g trace r.log lines
+    → IsRunning g trace s r due plan lines → AllKnownHandled g s r → AllShown r due → length r.log ≡ max (busy_until r.log (length r.log)) (latest lines) → IsPromisedRun g trace r.log lines
 ends g trace able s r due plan lines is over come end =
     let hold = lines_hold g able.can.well_formed able.can.rates trace able.can.keeps (order_of r.log) s is.interleaves.stands.along in
     ends_are_promised g trace able s r is.interleaves over plan due is.goes is.by lines

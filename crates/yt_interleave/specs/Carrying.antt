@@ -1,7 +1,6 @@
 -- How channels carry the messages of a run: what waits on a wire is what a job passes on.
 use Rattle.std.specs.Prelude.{◌≡◌, ℕ, List, map}
 use Rattle.yt_graph.specs.declared.handled.SendItem.{SendItem}
-use Rattle.yt_graph.specs.Cost.{greatest_sends}
 use Rattle.yt_graph.specs.Picture.{GraphTree, PortTree}
 use Rattle.yt_code.specs.Outbox.{messages_on}
 use Rattle.yt_log.specs.declared.job.Job.{Job}
@@ -15,11 +14,9 @@ use Rattle.yt_chan.specs.Waiting.{Waiting}
 abbrev pub as_message : Waiting → PortMessage
 as_message m = record { time = m.time; values = m.values }
 
--- the wire of an out of a port has the numbers that the graph gives the out
-pub record IsWireOf (g : GraphTree) (number : ℕ) (p : PortTree) (n : ℕ) (wire : Wire) : Type 0 where
+-- a wire of a port passes on what the port's jobs send on an out: it has the out's `every`, the port's period and the out's gap
+pub record IsTimedAs (g : GraphTree) (number : ℕ) (p : PortTree) (n : ℕ) (wire : Wire) : Type 0 where
   pub port : wire.port ≡ number
-  pub out : wire.out ≡ n
-  pub sends : wire.sends ≡ greatest_sends p n
   pub every : wire.every ≡ every_of p n
   pub period : wire.period ≡ period_of g p
   pub gap : wire.gap ≡ gap_of g p n
@@ -27,5 +24,5 @@ pub record IsWireOf (g : GraphTree) (number : ℕ) (p : PortTree) (n : ℕ) (wir
 -- what a job leaves to wait on a wire of its port is what it passes on in a run
 abbrev pub WiresPassOn : Type 0
 WiresPassOn =
-    (g : GraphTree) (p : PortTree) (n : ℕ) (wire : Wire) (job : Job) (arrival : ℕ) (sends : List SendItem) → IsWireOf g job.task p n wire →
+    (g : GraphTree) (p : PortTree) (n : ℕ) (wire : Wire) (job : Job) (arrival : ℕ) (sends : List SendItem) → IsTimedAs g job.task p n wire →
     map as_message (passed_over wire (messages_on n sends) job arrival) ≡ passed g p job.number arrival sends n

@@ -8,7 +8,7 @@ use Rattle.yt_log.specs.Plan.{IsLegal}
 use Rattle.yt_log.specs.Tasks.{Has}
 use Rattle.yt_log.specs.Ticks.{done}
 use Rattle.yt_ready.specs.declared.entry.Entry.{Entry}
-use Rattle.yt_exec.specs.Bodies.{IsFree, task_in}
+use Rattle.yt_exec.specs.Bodies.{task_in}
 use Rattle.yt_exec.specs.Moments.{Moment, job_in, IsNextJob}
 use Rattle.yt_exec.specs.StandsFor.{StandsFor, GoesOnTo, GoesOnWith, item_at, plan_after}
 use Rattle.yt_exec.specs.declared.executive.Ticked.TheVariants.{Idle, Ran}
@@ -19,8 +19,8 @@ use Rattle.yt_serial.specs.PortMessages.{PortMessage, numbered}
 use Rattle.yt_serial.specs.SerialHandling.{Serial, handle_message}
 use Rattle.yt_interleave.specs.Interleaved as own
 use Rattle.yt_interleave.specs.Interleaved.{ActiveJob, known_at, whole_of, with_begun, with_idle}
-use Rattle.yt_interleave.specs.Moves.{MayBegin, after_tick, active_job, IsOver, IsResourceFree}
-use Rattle.yt_serial.specs.Judged.{IsSchedulable}
+use Rattle.yt_interleave.specs.Moves.{MayBegin, after_tick, active_job, AllKnownHandled}
+use Rattle.yt_serial.specs.Premises.{IsSchedulable}
 use Rattle.yt_interleave.specs.Runs.{IsRunning}
 use Rattle.yt_interleave.specs.Timing.{WaitsToBegin, IsRuleLog}
 use Rattle.yt_serial.specs.Beginnings.{nth_job}
@@ -46,15 +46,11 @@ pub record ExecutivesFollow : Type 0 where
       (g : GraphTree) (trace : List Message) → IsSchedulable g trace → (s : Serial) (r : own.RunState) (due : ℕ) (plan : List PlanItem) (lines : List OutLine) →
       IsRunning g trace s r due plan lines → (moment : Moment) (left : Job → ℕ) → StandsFor moment left plan r.log →
       (entry : Entry) → Contains moment.entries entry → entry.begun ≡ true → (b : ActiveJob) × (r.active entry.task ≡ Some b) × (b.job ≡ job_in entry)
-  -- where no job with ticks left is under the resource of a job that is to begin, and each active job has ticks left, that resource is free
-  pub free :
-      (g : GraphTree) (r : own.RunState) (left : Job → ℕ) → HasLeft g r left → (job : Job) → IsFree (tasks_of g) left job →
-      ((port : ℕ) (b : ActiveJob) → r.active port ≡ Some b → (b.job.task ≡ port) × (done r.log b.job (length r.log) < (whole_of g b).ticks)) → IsResourceFree g r job.task
   -- where no job waits and all known messages have come, all messages are handled
   pub over :
       (g : GraphTree) (trace : List Message) → IsSchedulable g trace → (s : Serial) (r : own.RunState) (due : ℕ) (plan : List PlanItem) (lines : List OutLine) →
       IsRunning g trace s r due plan lines → length r.log ≤ due → due ≤ suc (length r.log) → AllReleased r due →
-      (moment : Moment) (left : Job → ℕ) → StandsFor moment left plan r.log → moment.entries ≡ [] → IsOver g s r
+      (moment : Moment) (left : Job → ℕ) → StandsFor moment left plan r.log → moment.entries ≡ [] → AllKnownHandled g s r
   -- a job that begins costs its first tick and what its body has left after it
   pub cost :
       (g : GraphTree) (trace : List Message) → IsSchedulable g trace → (s : Serial) (r : own.RunState) (job : Job) (m : PortMessage) → MayBegin g s r job m →

@@ -28,7 +28,7 @@ pub record ActiveJob : Type 0 where
 -- an interleaved run between two ticks: the log so far; the variables; for each port its active job, where it has one; and the messages of
 -- each port and of each output that are known, which are those of the trace and those that ended jobs passed on. Of these the ones
 -- whose time has come are placed, and the others wait. A message is known from the end of the job that sends it, long before it comes;
--- a job of one tick is active at no state between ticks
+-- a job of one tick is active in no state
 pub record RunState : Type 0 where
   pub log : Ticks
   pub vars : List ℤ

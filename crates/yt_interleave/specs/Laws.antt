@@ -5,17 +5,14 @@ use Rattle.yt_log.specs.declared.job.Job.{Job}
 use Rattle.yt_log.specs.declared.plan.PlanItem.{PlanItem}
 use Rattle.yt_log.specs.Tasks.{Has}
 use Rattle.yt_log.specs.Ticks.{Ticks, done, IsLawful}
-use Rattle.yt_serial.specs.declared.shown.OutLine.{OutLine}
 use Rattle.yt_serial.specs.declared.trace.Message.{Message}
-use Rattle.yt_serial.specs.Judged.{IsSchedulable}
+use Rattle.yt_serial.specs.Premises.{CanRun}
 use Rattle.yt_serial.specs.PortMessages.{PortMessage}
 use Rattle.yt_serial.specs.SerialHandling.{Serial, handle_message, handled_along, plan_of_log, start}
-use Rattle.yt_serial.specs.Told.{AllHandled, BeginsInOrder, IsPromisedRun}
+use Rattle.yt_serial.specs.Told.{AllHandled, BeginsInOrder}
 use Rattle.yt_interleave.specs.Interleaved.{ActiveJob, RunState, first_state, with_begun, with_idle}
 use Rattle.yt_serial.specs.Variables.{variables_at}
-use Rattle.yt_interleave.specs.Moves.{MayBegin, after_tick, active_job, Interleaves, IsOver}
-use Rattle.yt_interleave.specs.Timing.{IsPlanOfRun, IsRuleLog, TellsLines}
-use Rattle.yt_serial.specs.Laws.{CanRun}
+use Rattle.yt_interleave.specs.Moves.{MayBegin, after_tick, active_job, Interleaves, AllKnownHandled}
 
 -- before the first tick nothing is handled
 abbrev pub StartsSerial : Type 0
@@ -51,7 +48,7 @@ pub record HasHandledAll (g : GraphTree) (trace : List Message) (s : Serial) (r 
 
 abbrev pub EndsAreSerial : Type 0
 EndsAreSerial =
-    (g : GraphTree) (trace : List Message) → CanRun g trace → (s : Serial) (r : RunState) → Interleaves g trace s r → IsOver g s r → HasHandledAll g trace s r
+    (g : GraphTree) (trace : List Message) → CanRun g trace → (s : Serial) (r : RunState) → Interleaves g trace s r → AllKnownHandled g s r → HasHandledAll g trace s r
 
 -- however the log goes on, and whatever serial handling along it comes to: the variables now are those at the start after all writes of the ticks so far
 abbrev pub VariablesAreWritten : Type 0
@@ -59,10 +56,3 @@ VariablesAreWritten =
     (g : GraphTree) (trace : List Message) → CanRun g trace → (s : Serial) (r : RunState) → Interleaves g trace s r →
     (more : Ticks) (whole : Serial) → handled_along g trace (r.log ++ more) ≡ Some whole →
     variables_at (start g trace).vars whole.handled (r.log ++ more) (length r.log) ≡ r.vars
-
--- when all messages are handled, the log is the rule's for a legal plan that goes with the run, and the lines and the end are told, the
--- log keeps every promise of a run
-abbrev pub EndsArePromised : Type 0
-EndsArePromised =
-    (g : GraphTree) (trace : List Message) → IsSchedulable g trace → (s : Serial) (r : RunState) → Interleaves g trace s r → IsOver g s r →
-    (plan : List PlanItem) (due : ℕ) → IsPlanOfRun s r due plan → IsRuleLog g plan r.log → (lines : List OutLine) → TellsLines s r.log lines → IsPromisedRun g trace r.log lines

@@ -16,7 +16,7 @@ use Rattle.yt_serial.specs.PortMessages.{PortMessage}
 use Rattle.yt_serial.specs.SerialHandling.{Serial}
 use Rattle.yt_serial.specs.Variables.{after_writes, writes_at}
 use Rattle.yt_interleave.specs.Interleaved.{ActiveJob, RunState, port_at, whole_of}
-use Rattle.yt_serial.specs.Laws.{CanRun}
+use Rattle.yt_serial.specs.Premises.{CanRun}
 use Rattle.yt_interleave.specs.Moves.{MayBegin, Interleaves}
 
 -- what code has come to that began with a message, under these variables, and had n ticks alone

@@ -40,6 +40,6 @@ pub record Interleaves (g : GraphTree) (trace : List Message) (s : Serial) (r : 
   pub lines : KnowsLines g s r
 
 -- no job is active, and each port has handled all known messages. Lines may be left to show
-pub record IsOver (g : GraphTree) (s : Serial) (r : RunState) : Type 0 where
+pub record AllKnownHandled (g : GraphTree) (s : Serial) (r : RunState) : Type 0 where
   pub none : (port : ℕ) → r.active port ≡ None
   pub all : (port : ℕ) → 1 ≤ port → port ≤ length g.ports → handled_of s port ≡ length (known_at r port)

@@ -1,5 +1,5 @@
 -- A run as far as it has come, with the plan of its executive and the lines that it has shown; and how it goes on.
-use Rattle.std.specs.Prelude.{◌≡◌, ℕ, suc, ◌+◌, ◌<◌, ◌≤◌, max, List, [], ◌∷◌, ◌++◌, length, slice_get, Some, None}
+use Rattle.std.specs.Prelude.{◌≡◌, ℕ, suc, ◌+◌, ◌-◌, ◌<◌, ◌≤◌, max, replicate, List, [], ◌∷◌, ◌++◌, length, slice_get, Some, None}
 use Rattle.yt_graph.specs.Picture.{GraphTree, PortTree}
 use Rattle.yt_log.specs.declared.job.Job.{Job}
 use Rattle.yt_log.specs.declared.plan.PlanItem.{PlanItem}
@@ -17,9 +17,9 @@ use Rattle.yt_interleave.specs.Interleaved.{ActiveJob, RunState, known_at, whole
 use Rattle.yt_serial.specs.Variables.{variables_at}
 use Rattle.yt_serial.specs.Lines.{lines_of, AreInLineOrder}
 use Rattle.yt_interleave.specs.Lines.{messages_to, come_at, HasShown}
-use Rattle.yt_interleave.specs.Moves.{MayBegin, after_tick, active_job, Interleaves, IsOver, IsResourceFree}
+use Rattle.yt_interleave.specs.Moves.{MayBegin, after_tick, active_job, Interleaves, AllKnownHandled, IsResourceFree}
 use Rattle.yt_interleave.specs.Timing.{HasEnded, IsOnTime, WaitsToBegin, IsPlanOfRun, IsRuleLog}
-use Rattle.yt_serial.specs.Judged.{IsSchedulable}
+use Rattle.yt_serial.specs.Premises.{IsSchedulable}
 
 -- a run between two ticks: what came before `due` is placed, released and shown
 pub record IsRunning (g : GraphTree) (trace : List Message) (s : Serial) (r : RunState) (due : ℕ) (plan : List PlanItem) (lines : List OutLine) : Type 0 where
@@ -71,7 +71,7 @@ pub record RunsGoOn : Type 0 where
   pub grows : (g : GraphTree) (b : ActiveJob) (r : RunState) → (after_tick g b r).log ≡ r.log ++ Some b.job ∷ []
   pub ends :
       (g : GraphTree) (trace : List Message) → IsSchedulable g trace → (s : Serial) (r : RunState) (due : ℕ) (plan : List PlanItem) (lines : List OutLine) →
-      IsRunning g trace s r due plan lines → IsOver g s r → AllShown r due → length r.log ≡ max (busy_until r.log (length r.log)) (latest lines) → IsPromisedRun g trace r.log lines
+      IsRunning g trace s r due plan lines → AllKnownHandled g s r → AllShown r due → length r.log ≡ max (busy_until r.log (length r.log)) (latest lines) → IsPromisedRun g trace r.log lines
 
 -- when the log ends with the last job and the last line: where its last tick went to a job, where a line is shown at its end, and where
 -- it is empty
@@ -117,10 +117,11 @@ pub record RunsAreOnTime : Type 0 where
       (port n : ℕ) (p : PortTree) (m : PortMessage) → numbered g.ports port ≡ Some p → numbered (known_at r port) n ≡ Some m → (HasEnded s r port n → ⊥) →
       length r.log < m.time + period_of g p
 
--- a run as far as it has come agrees with a whole run: the longer one of the two logs goes on from the other, and the variables now are
--- those of the whole run at this tick, also where the whole run has ended before it
+-- a run as far as it has come agrees with a whole run: where the whole run is no shorter it goes on from the run's log, and where it is
+-- shorter the run's log goes on from it with idle ticks; and the variables now are those of the whole run at this tick
 pub record AgreesWith (g : GraphTree) (trace : List Message) (r : RunState) (whole : Ticks) : Type 0 where
   pub goes_on : length r.log ≤ length whole → (rest : Ticks) × (whole ≡ r.log ++ rest)
+  pub idles_on : length whole ≤ length r.log → r.log ≡ whole ++ replicate (length r.log - length whole) None
   pub variables : (s : Serial) → handled_along g trace whole ≡ Some s → variables_at (start g trace).vars s.handled whole (length r.log) ≡ r.vars
 
 -- a run as far as it has come agrees with each promised run

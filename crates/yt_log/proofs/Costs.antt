@@ -11,7 +11,7 @@ use Rattle.yt_log.specs.Laws.{IsLike, AreLike, CostsWait}
 use Rattle.yt_log.proofs.Ticks.{done_grows}
 
 -- the rank doesn't go by the cost
-rank_like : (tasks : List Task) (log : Ticks) (t : ℕ) (a b : PlanItem) → a.job ≡ b.job → a.arrival ≡ b.arrival → rank tasks log t a ≡ rank tasks log t b
+pub rank_like : (tasks : List Task) (log : Ticks) (t : ℕ) (a b : PlanItem) → a.job ≡ b.job → a.arrival ≡ b.arrival → rank tasks log t a ≡ rank tasks log t b
 unfolding rank current_deadline deadline_of
 rank_like tasks log t a b j e =
     let at : Job → ℕ → PlanItem = λ job arrival. record { job = job; arrival = arrival; cost = 0 } in

@@ -30,8 +30,9 @@ use Rattle.yt_serial.proofs.SerialStates.{placed_at, BringsOf, brings, message_t
 use Rattle.yt_serial.proofs.SerialRuns.{stepped, holds_stepped, serial_holds, inputs_stay}
 use Rattle.yt_serial.proofs.SerialLines.{lines_append, all_at}
 use Rattle.yt_serial.specs.Bounds.{greatest_passed, most_messages_within, most_messages, MessagesAreBounded}
-use Rattle.yt_serial.specs.Laws.{CanRun}
+use Rattle.yt_serial.specs.Premises.{CanRun}
 use Rattle.yt_serial.specs.Lines.{lines_of}
+use Rattle.yt_serial.proofs.Spread.{numbered_within}
 
 div_le : (a b e : ℕ) → 1 ≤ e → a ≤ b → a / e ≤ b / e
 div_le a b e some le =
@@ -102,10 +103,6 @@ messages_grow adds [] (before ∷ messages) k long = absurd (omega arith)
 messages_grow adds (p ∷ ports) [] k long = absurd (omega arith)
 messages_grow adds (p ∷ ports) (before ∷ messages) zero long = let l = length-append before (adds p.feed) in omega arith
 messages_grow adds (p ∷ ports) (before ∷ messages) (suc k) long = messages_grow adds ports messages k (omega arith)
-
-numbered_within : (ms : List PortMessage) (n : ℕ) (m : PortMessage) → numbered ms n ≡ Some m → n ≤ length ms
-numbered_within ms zero m e = omega arith
-numbered_within ms (suc n) m e = let k = slice_get_within ms n m e in omega arith
 
 -- no port has handled more messages than it has, and no more messages came than their source has passed on
 pub record IsBounded (g : GraphTree) (s : Serial) : Type 0 where
@@ -187,7 +184,7 @@ module _ (g : GraphTree) (trace : List Message) (can : CanRun g trace) where
         (λ (e : job.task ≡ port).
         let count = handled_same port e in
         let there = message_there job s m next in
-        let within = numbered_within (messages_at s job.task) job.number m there.1 in
+        let within = (numbered_within (messages_at s job.task) job.number m there.1).1 in
         let same : length (messages_at s job.task) ≡ length (messages_at s port) = ap (λ (n : ℕ). length (messages_at s n)) e in
         let all : handled_of s job.task ≡ handled_of s port = ap (handled_of s) e in
         let number = there.0 in
@@ -305,6 +302,6 @@ module _ (g : GraphTree) (trace : List Message) (can : CanRun g trace) where
 
 pub messages_are_bounded : MessagesAreBounded
 messages_are_bounded = record {
-  ports = λ g trace can order s along port p there. (handled_le g trace can order s along port, port_most g trace can order s along port p there);
-  outputs = λ g trace can order s along n o p there at_p. output_most g trace can order s along n o p there at_p;
+  ports = λ g trace order s is port p there. (handled_le g trace is.can order s is.along port, port_most g trace is.can order s is.along port p there);
+  outputs = λ g trace order s is n o p there at_p. output_most g trace is.can order s is.along n o p there at_p;
 }

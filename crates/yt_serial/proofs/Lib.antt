@@ -2,12 +2,12 @@ mod SerialExamples
 pub mod Lemmas
 mod Bounds
 mod Done
-mod Judged
 mod LineOrder
 mod LogWrites
 mod Orderly
 mod Orders
 mod Prefix
+mod RunRules
 mod Sends
 mod SerialInvariant
 mod SerialLaws

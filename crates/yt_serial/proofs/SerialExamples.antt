@@ -1,5 +1,5 @@
 -- Serial handling, computed: three ports in a chain, an out that passes every second job's three messages, and two handlers that write one variable in turn.
-use Rattle.std.proofs.Common.{◌≡◌, ℕ, List, [], ◌∷◌, ◌++◌, Option, None, Some, refl}
+use Rattle.std.proofs.Common.{◌≡◌, ℕ, List, [], ◌∷◌, ◌++◌, Option, None, Some, refl, map}
 use Rattle.std.specs.Prelude.{ℤ, pos, codes, replicate, option_map}
 use Rattle.std.specs.Int.{int_wrap}
 use Rattle.yt_graph.specs.declared.expr.Op2.TheVariants.{Add, Mul}
@@ -14,8 +14,10 @@ use Rattle.yt_log.specs.Plan.{same_job, jobs_of}
 use Rattle.yt_log.specs.Ticks.{Ticks, tick, names, done}
 use Rattle.yt_serial.specs.declared.shown.OutLine.{OutLine}
 use Rattle.yt_serial.specs.declared.trace.Message.{Message}
+use Rattle.yt_serial.specs.Bounds.{greatest_passed, most_messages}
 use Rattle.yt_serial.specs.Beginnings.{newcomer, begun_below, order_of}
 use Rattle.yt_serial.specs.PortMessages.{PortMessage}
+use Rattle.yt_serial.specs.Variables.{variables_at, writes_below, writes_in, writes_of}
 use Rattle.yt_serial.specs.SerialHandling.{Serial, start, serial_run, handled_along, plan_of_log}
 
 abbrev job : ℕ → ℕ → Job
@@ -168,3 +170,20 @@ by_arrival = refl
 planned : plan_of_log counter arrivals log ≡ item 1 1 0 5 ∷ item 3 1 0 5 ∷ item 2 1 3 7 ∷ []
 unfolding begun_below newcomer done names same_job tick jobs_of int_wrap
 planned = refl
+
+-- a message of the input is one at each port of the relay
+bounded_relay : map (most_messages relay go) relay.ports ≡ 1 ∷ 1 ∷ 1 ∷ []
+bounded_relay = refl
+
+-- of two messages the second passes, with three sends; and without `every` both do
+bounded_triple : (map (λ (p : PortTree). greatest_passed p 1 (most_messages (triple 2) ticks p)) (triple 2).ports ≡ 3 ∷ [])
+    × (map (λ (p : PortTree). greatest_passed p 1 (most_messages (triple 1) ticks p)) (triple 1).ports ≡ 6 ∷ [])
+bounded_triple = (refl, refl)
+
+-- the variable of the counter at some ticks: it is written in the fourth tick of each of two jobs
+abbrev counted : ℕ → Option (List ℤ)
+counted t = option_map (λ (s : Serial). variables_at (pos 1 ∷ []) s.handled log t) (handled_along counter arrivals log)
+
+variables_in_turn : (counted 0 ≡ Some (pos 1 ∷ [])) × (counted 6 ≡ Some (pos 1 ∷ [])) × (counted 7 ≡ Some (pos 2 ∷ [])) × (counted 15 ≡ Some (pos 2 ∷ [])) × (counted 16 ≡ Some (pos 4 ∷ [])) × (counted 30 ≡ Some (pos 4 ∷ []))
+unfolding begun_below newcomer done names same_job tick jobs_of int_wrap writes_below writes_in writes_of
+variables_in_turn = (refl, refl, refl, refl, refl, refl)

@@ -75,7 +75,7 @@ port_task g (suc k) q there =
     let at : slice_get (tasks_of g) k ≡ Some (task_of g q) = slice_get-map (task_of g) g.ports k ∙ ap (λ o. option_map (task_of g) o) there in
     (omega arith, omega arith, task_of-suc (tasks_of g) k ∙ get_or_from_slice_get (tasks_of g) k (task_of g q) no_task at)
 
-period_some : (g : GraphTree) (port : ℕ) (q : PortTree) → All (IsWithinRates g) g.ports → numbered g.ports port ≡ Some q → 1 ≤ period_of g q
+pub period_some : (g : GraphTree) (port : ℕ) (q : PortTree) → All (IsWithinRates g) g.ports → numbered g.ports port ≡ Some q → 1 ≤ period_of g q
 period_some g zero q rates there = absurd (none-some q there)
 period_some g (suc k) q rates there =
     subst (λ (p : PortTree). 1 ≤ period_of g p) (get_or_from_slice_get g.ports k q q there) (rates k q (slice_get_within g.ports k q there)).some_period

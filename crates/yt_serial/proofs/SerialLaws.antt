@@ -8,7 +8,8 @@ use Rattle.yt_rates.specs.Rates.{period_of}
 use Rattle.yt_rates.specs.Tables.{tasks_of}
 use Rattle.yt_serial.specs.declared.trace.Message.{Message}
 use Rattle.yt_serial.specs.Beginnings.{order_of}
-use Rattle.yt_serial.specs.Laws.{IsHandling, PlansAreLegal, LogPlansAreLegal, MessagesAreApart}
+use Rattle.yt_serial.specs.Premises.{IsHandling}
+use Rattle.yt_serial.specs.Laws.{PlansAreLegal, LogPlansAreLegal, MessagesAreApart}
 use Rattle.yt_serial.specs.SerialHandling.{Serial, messages_at, plan_of, handled_along}
 use Rattle.yt_serial.proofs.Orderly.{sorted_legal}
 use Rattle.yt_serial.proofs.SerialInvariant.{Holds}

@@ -13,7 +13,7 @@ use Rattle.yt_log.specs.declared.job.Job.{Job}
 use Rattle.yt_rates.specs.Faults.{IsWithinRates}
 use Rattle.yt_rates.specs.Rates.{period_of, input_period, stream_within}
 use Rattle.yt_serial.specs.declared.trace.Message.{Message}
-use Rattle.yt_serial.specs.Laws.{CanRun}
+use Rattle.yt_serial.specs.Premises.{CanRun}
 use Rattle.yt_serial.specs.PortMessages.{PortMessage, numbered, messages_of, passed}
 use Rattle.yt_serial.specs.SerialHandling.{Serial, messages_at, brought, from_outside, no_port, port_of, handle_message, handled_of, message_of, serial_step, serial_run, start}
 use Rattle.yt_serial.specs.Traces.{KeepsPeriods}

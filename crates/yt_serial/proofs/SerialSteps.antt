@@ -19,7 +19,7 @@ use Rattle.yt_log.proofs.Members.{has_last, has_left, has_sorted, sorted_has}
 use Rattle.yt_rates.specs.Rates.{period_of}
 use Rattle.yt_serial.specs.declared.trace.Message.{Message}
 use Rattle.yt_serial.specs.Beginnings.{begun_below, nth_job, order_of}
-use Rattle.yt_serial.specs.Laws.{CanRun}
+use Rattle.yt_serial.specs.Premises.{CanRun}
 use Rattle.yt_serial.specs.PortMessages.{PortMessage, numbered, passed}
 use Rattle.yt_serial.specs.SerialHandling.{Handled, Serial, messages_at, items_of, handled_of, brought, start, no_port, port_of, handle_message, message_of, serial_step, serial_run, plan_of, plan_of_log}
 use Rattle.yt_serial.proofs.Orders.{goes_on}

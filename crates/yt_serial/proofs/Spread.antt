@@ -90,6 +90,11 @@ numbered_far period ms spread (suc m) (suc n) x y a b le =
     let e : (suc n - suc m) * period ≡ (n - m) * period = ap (λ (k : ℕ). k * period) (omega arith) in
     omega arith
 
+-- a number at which something stands is from 1 to the length
+pub numbered_within : {X : Type 0} (xs : List X) (n : ℕ) (x : X) → numbered xs n ≡ Some x → (1 ≤ n) × (n ≤ length xs)
+numbered_within xs zero x h = absurd (none-some x h)
+numbered_within xs (suc n) x h = let k = slice_get_within xs n x h in (omega arith, omega arith)
+
 pub numbered_apart : (period : ℕ) (ms : List PortMessage) → IsSpread period ms → (m n : ℕ) (x y : PortMessage)
     → numbered ms m ≡ Some x → numbered ms n ≡ Some y → m < n → x.time + period ≤ y.time
 numbered_apart period ms spread zero n x y a b lt = absurd (none-some x a)

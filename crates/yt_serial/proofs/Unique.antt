@@ -2,12 +2,12 @@
 use Rattle.std.proofs.Common.{◌≡◌, ℕ, zero, suc, ◌<◌, ◌≤◌, false, List, [], ◌∷◌, length, Option, None, Some, refl, sym, ap, ap₂, subst, ◌∙◌, ⊎_elim, arith}
 use Rattle.std.proofs.lemmas.Bool.{cases_eq, cases_lt, false_from_ne_true}
 use Rattle.std.proofs.lemmas.List.{length-map, ext_get_or}
-use Rattle.std.proofs.lemmas.Option.{none-some, same_Some, option_and_then_some, slice_get_within}
+use Rattle.std.proofs.lemmas.Option.{same_Some, option_and_then_some}
 use Rattle.yt_graph.specs.Picture.{GraphTree}
 use Rattle.yt_set.specs.declared.task.Task.{Task}
 use Rattle.yt_log.specs.declared.job.Job.{Job}
 use Rattle.yt_log.specs.declared.plan.PlanItem.{PlanItem}
-use Rattle.yt_log.specs.EdfDdm.{current_deadline, rank, least, waits, choice, IsEdfDdm, precedes}
+use Rattle.yt_log.specs.EdfDdm.{rank, least, waits, choice, IsEdfDdm, precedes}
 use Rattle.yt_log.specs.Order.{sort_by}
 use Rattle.yt_log.specs.Plan.{its_task, deadline_of, IsLegal}
 use Rattle.yt_log.specs.Tasks.{Has}
@@ -25,7 +25,7 @@ use Rattle.yt_rates.specs.Tables as tables
 use Rattle.yt_serial.specs.declared.shown.OutLine.{OutLine}
 use Rattle.yt_serial.specs.declared.trace.Message.{Message}
 use Rattle.yt_serial.specs.Beginnings.{begun_below, nth_job, order_of}
-use Rattle.yt_serial.specs.Laws.{CanRun}
+use Rattle.yt_serial.specs.Premises.{CanRun}
 use Rattle.yt_serial.specs.PortMessages.{PortMessage, numbered}
 use Rattle.yt_serial.specs.SerialHandling.{Serial, messages_at, items_of, start, serial_step, serial_run, plan_of_log}
 use Rattle.yt_serial.specs.Told.{line_before, latest, AllHandled, IsPromisedRun}
@@ -36,6 +36,8 @@ use Rattle.yt_serial.proofs.SerialInvariant.{Holds, port_task}
 use Rattle.yt_serial.proofs.SerialRuns.{serial_holds, stepped}
 use Rattle.yt_serial.proofs.SerialStates.{message_there, port_there}
 use Rattle.yt_serial.proofs.SerialSteps.{AtTick, IsBrought, at_tick, from_start, in_items, in_plan}
+use Rattle.yt_serial.proofs.Spread.{numbered_within}
+use Rattle.yt_log.proofs.Costs.{rank_like}
 
 module _ (g : GraphTree) (trace : List Message) (can : CanRun g trace) where
   -- an item of the same job and arrival that waits
@@ -45,10 +47,6 @@ module _ (g : GraphTree) (trace : List Message) (can : CanRun g trace) where
     job : twin.job ≡ z.job
     arrival : twin.arrival ≡ z.arrival
     waiting : IsWaiting log t twin
-
-  numbered_within : (ms : List PortMessage) (n : ℕ) (m : PortMessage) → numbered ms n ≡ Some m → (1 ≤ n) × (n ≤ length ms)
-  numbered_within ms zero m h = absurd (none-some m h)
-  numbered_within ms (suc n) m h = let k = slice_get_within ms n m h in (omega arith, omega arith)
 
   -- a log of the rule, for a plan that has what serial handling along the log has so far
   pub record IsRuleRun (log : Ticks) (whole : Serial) (plan : List PlanItem) : Type 0 where
@@ -150,13 +148,6 @@ module _ (g : GraphTree) (trace : List Message) (can : CanRun g trace) where
         (λ (ne : done a z.job t ≡ 0 → ⊥). begun_twin z has waits (omega arith))
         (cases_eq (done a z.job t) 0)
 
--- the rank doesn't go by the cost
-rank_like : (tasks : List Task) (log : Ticks) (t : ℕ) (y z : PlanItem) → y.job ≡ z.job → y.arrival ≡ z.arrival → rank tasks log t y ≡ rank tasks log t z
-unfolding rank current_deadline deadline_of
-rank_like tasks log t y z j e =
-    let at : Job → ℕ → PlanItem = λ job arrival. record { job = job; arrival = arrival; cost = 0 } in
-    ap₂ (λ (job : Job) (arrival : ℕ). rank tasks log t (at job arrival)) j e
-
 waits_in : (a b : Ticks) (t : ℕ) (z : PlanItem) → Agree a b t → IsWaiting a t z → IsWaiting b t z
 waits_in a b t z agree w = let d = done_same a b z.job t agree in let u = w.unfinished in record { arrived = w.arrived; unfinished = omega arith }
 
@@ -179,7 +170,7 @@ no_more g trace can s holds all (j ∷ later) t along =
     let p = port_there g.ports s.messages j.task j.number k.0 holds.long there.1 in
     let range = port_task g j.task p.0 p.1 in
     let ports = length-map g.ports (tables.task_of g) in
-    let n = numbered_within g trace can (messages_at s j.task) j.number k.0 there.1 in
+    let n = numbered_within (messages_at s j.task) j.number k.0 there.1 in
     let h = all j.task range.0 (omega (arith, range.1)) in
     absurd (omega (arith, n.1, there.0)))
 

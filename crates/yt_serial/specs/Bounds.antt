@@ -10,8 +10,8 @@ use Rattle.yt_log.specs.declared.job.Job.{Job}
 use Rattle.yt_rates.specs.Rates.{every_of}
 use Rattle.yt_serial.specs.declared.trace.Message.{Message}
 use Rattle.yt_serial.specs.PortMessages.{numbered, messages_of}
-use Rattle.yt_serial.specs.SerialHandling.{Serial, messages_at, handled_of, start, serial_run}
-use Rattle.yt_serial.specs.Laws.{CanRun}
+use Rattle.yt_serial.specs.SerialHandling.{Serial, messages_at, handled_of}
+use Rattle.yt_serial.specs.Premises.{IsHandling}
 use Rattle.yt_serial.specs.Lines.{lines_of}
 
 -- the most messages that an out passes on for so many messages at its port
@@ -32,9 +32,9 @@ most_messages g trace port = most_messages_within g trace (length g.ports) port.
 -- each port handles at most so many messages, and each output shows at most so many
 pub record MessagesAreBounded : Type 0 where
   pub ports :
-      (g : GraphTree) (trace : List Message) → CanRun g trace → (order : List Job) (s : Serial) → serial_run g order (start g trace) ≡ Some s →
+      (g : GraphTree) (trace : List Message) (order : List Job) (s : Serial) → IsHandling g trace order s →
       (port : ℕ) (p : PortTree) → numbered g.ports port ≡ Some p → (handled_of s port ≤ length (messages_at s port)) × (length (messages_at s port) ≤ most_messages g trace p)
   pub outputs :
-      (g : GraphTree) (trace : List Message) → CanRun g trace → (order : List Job) (s : Serial) → serial_run g order (start g trace) ≡ Some s →
+      (g : GraphTree) (trace : List Message) (order : List Job) (s : Serial) → IsHandling g trace order s →
       (n : ℕ) (o : Output) (p : PortTree) → numbered g.outputs n ≡ Some o → numbered g.ports o.port ≡ Some p →
       length (lines_of n s.lines) ≤ greatest_passed p o.out (most_messages g trace p)

@@ -1,30 +1,17 @@
 -- What is proved of serial handling.
-use Rattle.std.specs.Prelude.{◌≡◌, ℕ, ◌≤◌, ℤ, List, All, length, Some}
+use Rattle.std.specs.Prelude.{◌≡◌, ℕ, ◌≤◌, ℤ, List, length}
 use Rattle.std.specs.Option.{ForSome}
 use Rattle.yt_graph.specs.Picture.{GraphTree}
-use Rattle.yt_graph.specs.WellFormed.{IsWellFormed}
 use Rattle.yt_log.specs.declared.job.Job.{Job}
 use Rattle.yt_log.specs.Plan.{IsLegal}
 use Rattle.yt_log.specs.Ticks.{Ticks}
-use Rattle.yt_rates.specs.Faults.{IsWithinRates}
 use Rattle.yt_rates.specs.Rates.{period_of}
 use Rattle.yt_rates.specs.Tables.{tasks_of}
 use Rattle.yt_serial.specs.declared.trace.Message.{Message}
 use Rattle.yt_serial.specs.PortMessages.{numbered, AreApart}
-use Rattle.yt_serial.specs.SerialHandling.{Handled, Serial, messages_at, start, serial_run, plan_of, plan_of_log}
-use Rattle.yt_serial.specs.Traces.{KeepsPeriods}
+use Rattle.yt_serial.specs.SerialHandling.{Handled, Serial, messages_at, plan_of, plan_of_log}
 use Rattle.yt_serial.specs.Variables.{variables_at}
-
--- a graph and a trace that can be run: the graph is well formed, its rates are within their limits, and the trace keeps its periods
-pub record CanRun (g : GraphTree) (trace : List Message) : Type 0 where
-  pub well_formed : IsWellFormed g
-  pub rates : All (IsWithinRates g) g.ports
-  pub keeps : KeepsPeriods g trace
-
--- serial handling comes this far on a trace
-pub record IsHandling (g : GraphTree) (trace : List Message) (order : List Job) (s : Serial) : Type 0 where
-  pub can : CanRun g trace
-  pub along : serial_run g order (start g trace) ≡ Some s
+use Rattle.yt_serial.specs.Premises.{CanRun, IsHandling}
 
 -- along each order on which it is defined, serial handling makes a legal plan for the graph's tasks
 abbrev pub PlansAreLegal : Type 0

@@ -5,6 +5,7 @@ pub mod SerialHandling
 pub mod Told
 pub mod Lines
 pub mod Variables
-pub mod Bounds
+pub mod Premises
 pub mod Laws
-pub mod Judged
+pub mod Bounds
+pub mod RunRules

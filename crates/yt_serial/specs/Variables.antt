@@ -26,11 +26,12 @@ unfoldable pub writes_in : List Handled → Ticks → ℕ → Option Job → Lis
 writes_in handled log t None = []
 writes_in handled log t (Some job) = writes_at (done log job t) (writes_of handled job)
 
--- the writes whose own tick is below t, in order of ticks
+-- the writes that are made in ticks below t, in order of ticks
 unfoldable pub writes_below : List Handled → Ticks → ℕ → List Write
 writes_below handled log zero = []
 writes_below handled log (suc t) = writes_below handled log t ++ writes_in handled log t (tick log t)
 
--- the variables at a tick: those at the start after all writes whose own tick is below it
+-- the variables at a tick of a run, where `vars` are the starting ones and `handled` is what serial handling along the log handled: those at the
+-- start after all writes that are made in ticks below it
 abbrev pub variables_at : List ℤ → List Handled → Ticks → ℕ → List ℤ
 variables_at vars handled log t = after_writes (writes_below handled log t) vars

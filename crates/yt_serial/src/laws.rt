@@ -1,7 +1,7 @@
 //! Laws of the definitions.
 
 ghost use Rattle.yt_serial.specs.Bounds.{MessagesAreBounded};
-ghost use Rattle.yt_serial.specs.Judged.{RunsAreJudged};
+ghost use Rattle.yt_serial.specs.RunRules.{RunRulesAreExact};
 ghost use Rattle.yt_serial.specs.Laws.{LogPlansAreLegal, MessagesAreApart, PlansAreLegal, VariablesStay};
 
 /// Along each order on which it is defined, serial handling makes a legal plan for the graph's tasks.
@@ -19,7 +19,7 @@ pub fn messages_are_apart()
     ensures { MessagesAreApart }
 {}
 
-/// Each port handles at most so many messages, and each output shows at most so many, by the chain of sources.
+/// Each port handles, and each output shows, no more messages than its chain of sources and the trace allow.
 pub fn messages_are_bounded()
     ensures { MessagesAreBounded }
 {}
@@ -29,7 +29,8 @@ pub fn variables_stay()
     ensures { VariablesStay }
 {}
 
-/// A log and lines that can be judged to be the run's, without running anything, keep every promise of a run; and there is one run.
-pub fn runs_are_judged()
-    ensures { RunsAreJudged }
+/// Where the rule's logs keep the deadlines of the graph's tasks, a log and lines keep every promise of a run exactly where they meet the
+/// rules of a run, which are judged by handling its messages one at a time; and at most one log, with its lines, keeps every promise.
+pub fn run_rules_are_exact()
+    ensures { RunRulesAreExact }
 {}

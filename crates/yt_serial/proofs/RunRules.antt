@@ -1,7 +1,7 @@
--- What is judged of a log and output lines is all that is promised of a run.
-use Rattle.std.proofs.Common.{◌≡◌, ℕ, zero, suc, ◌<◌, ◌≤◌, List, [], ◌∷◌, ◌++◌, length, Some, sym, ap, subst, ◌∙◌, ⊎_elim, arith}
+-- The rules of a run are all that is promised of it.
+use Rattle.std.proofs.Common.{◌≡◌, ℕ, suc, ◌<◌, ◌≤◌, List, [], ◌∷◌, ◌++◌, length, Some, sym, ap, subst, ◌∙◌, ⊎_elim, arith}
 use Rattle.std.proofs.lemmas.Bool.{cases_lt}
-use Rattle.std.proofs.lemmas.Option.{none-some, option_and_then_some}
+use Rattle.std.proofs.lemmas.Option.{option_and_then_some}
 use Rattle.yt_graph.specs.Picture.{GraphTree}
 use Rattle.yt_set.specs.declared.task.Task.{Task}
 use Rattle.yt_log.specs.declared.job.Job.{Job}
@@ -20,8 +20,9 @@ use Rattle.yt_rates.specs.Tables.{tasks_of}
 use Rattle.yt_serial.specs.declared.shown.OutLine.{OutLine}
 use Rattle.yt_serial.specs.declared.trace.Message.{Message}
 use Rattle.yt_serial.specs.Beginnings.{begun_below, order_of}
-use Rattle.yt_serial.specs.Judged.{IsJudgedRun, IsSchedulable, RunsAreJudged}
-use Rattle.yt_serial.specs.PortMessages.{PortMessage, numbered}
+use Rattle.yt_serial.specs.RunRules.{MeetsRunRules, RunRulesAreExact}
+use Rattle.yt_serial.specs.Premises.{IsSchedulable}
+use Rattle.yt_serial.specs.PortMessages.{numbered}
 use Rattle.yt_serial.specs.SerialHandling.{Serial, messages_at, items_of, handled_of, start, serial_step, serial_run, plan_of_log}
 use Rattle.yt_serial.specs.Told.{IsPromisedRun, NoneReplaced}
 use Rattle.yt_serial.proofs.Done.{begun_fresh}
@@ -31,14 +32,10 @@ use Rattle.yt_serial.proofs.SerialLaws.{log_plans_are_legal}
 use Rattle.yt_serial.proofs.SerialRuns.{serial_holds, stepped}
 use Rattle.yt_serial.proofs.SerialStates.{message_there, port_there}
 use Rattle.yt_serial.proofs.SerialSteps.{at_tick, from_start, in_items, run_rest}
-use Rattle.yt_serial.proofs.Spread.{numbered_apart}
+use Rattle.yt_serial.proofs.Spread.{numbered_apart, numbered_within}
 use Rattle.yt_serial.proofs.Unique.{runs_are_one}
 
-number_some : (ms : List PortMessage) (n : ℕ) (m : PortMessage) → numbered ms n ≡ Some m → 1 ≤ n
-number_some ms zero m h = absurd (none-some m h)
-number_some ms (suc n) m h = omega arith
-
-module _ (g : GraphTree) (trace : List Message) (able : IsSchedulable g trace) (log : Ticks) (lines : List OutLine) (is : IsJudgedRun g trace log lines) where
+module _ (g : GraphTree) (trace : List Message) (able : IsSchedulable g trace) (log : Ticks) (lines : List OutLine) (is : MeetsRunRules g trace log lines) where
   abbrev plan : List PlanItem
   plan = plan_of_log g trace log
 
@@ -107,7 +104,7 @@ module _ (g : GraphTree) (trace : List Message) (able : IsSchedulable g trace) (
       let number = number_of b.job now.now next.now step in
       let count : handled_of now.now b.job.task ≡ handled_of now.now a.job.task = ap (handled_of now.now) (sym task) in
       let from = from_start g trace able.can (begun_below log t) now.now now.along in
-      let some = number_some (messages_at is.serial a.job.task) a.job.number (holds.items a (item_in a has_a)).message (holds.items a (item_in a has_a)).there in
+      let some = (numbered_within (messages_at is.serial a.job.task) a.job.number (holds.items a (item_in a has_a)).message (holds.items a (item_in a has_a)).there).0 in
       let z = from.numbers (λ p k one le. absurd (let n = jobs_none p in omega arith)) a.job.task a.job.number some (omega arith) in
       let has : Has (begun_below log t) z.0.job = ⊎_elim (λ (no : Has (items_of (start g trace)) z.0). absurd no) (λ (h : Has (begun_below log t) z.0.job). h) (from.old z.0 z.1) in
       let has_a_job : Has (begun_below log t) a.job = subst (λ (j : Job). Has (begun_below log t) j) z.2 has in
@@ -143,8 +140,8 @@ module _ (g : GraphTree) (trace : List Message) (able : IsSchedulable g trace) (
         none_replaced = replaced;
       }
 
-pub judged : (g : GraphTree) (trace : List Message) (log : Ticks) (lines : List OutLine) → IsPromisedRun g trace log lines → IsJudgedRun g trace log lines
-judged g trace log lines p = record {
+pub meets_rules : (g : GraphTree) (trace : List Message) (log : Ticks) (lines : List OutLine) → IsPromisedRun g trace log lines → MeetsRunRules g trace log lines
+meets_rules g trace log lines p = record {
   serial = p.tells.serial;
   along = p.tells.along;
   all = p.tells.all;
@@ -154,8 +151,8 @@ judged g trace log lines p = record {
   ends = p.tells.ends;
 }
 
-pub runs_are_judged : RunsAreJudged
-runs_are_judged = record {
-  exact = λ g trace able log lines. (promised g trace able log lines, judged g trace log lines);
+pub run_rules_are_exact : RunRulesAreExact
+run_rules_are_exact = record {
+  exact = λ g trace able log lines. (promised g trace able log lines, meets_rules g trace log lines);
   one = runs_are_one;
 }

@@ -1,9 +1,9 @@
--- What a log and output lines have to satisfy to be the run of a graph on a trace, as far as it can be judged without running anything.
+-- What a log and output lines have to satisfy to be the run of a graph on a trace, as it can be judged without an executive: by handling
+-- the messages one at a time.
 use Rattle.std.specs.Prelude.{◌≡◌, ◌↔◌, max, List, Some, length}
 use Rattle.yt_graph.specs.Picture.{GraphTree}
 use Rattle.yt_log.specs.declared.plan.PlanItem.{PlanItem}
 use Rattle.yt_log.specs.EdfDdm.{IsEdfDdm}
-use Rattle.yt_log.specs.Laws.{RuleKeeps}
 use Rattle.yt_log.specs.Order.{sort_by}
 use Rattle.yt_log.specs.Tasks.{Has}
 use Rattle.yt_log.specs.Ticks.{Ticks, done}
@@ -11,14 +11,14 @@ use Rattle.yt_rates.specs.Tables.{tasks_of}
 use Rattle.yt_serial.specs.declared.shown.OutLine.{OutLine}
 use Rattle.yt_serial.specs.declared.trace.Message.{Message}
 use Rattle.yt_serial.specs.Beginnings.{busy_until}
-use Rattle.yt_serial.specs.Laws.{CanRun}
+use Rattle.yt_serial.specs.Premises.{CanRun, IsSchedulable}
 use Rattle.yt_serial.specs.SerialHandling.{Serial, handled_along, plan_of_log}
 use Rattle.yt_serial.specs.Told.{line_before, latest, AllHandled, IsPromisedRun}
 
 -- handling the messages one at a time in the order in which the log's jobs begin is defined, and handles all; of the plan that it makes,
 -- each tick went where the rule gives it, and each job is done; the lines are those of serial handling, in order of time and then of
 -- output; and the log ends with the last job and the last line
-pub record IsJudgedRun (graph : GraphTree) (trace : List Message) (log : Ticks) (lines : List OutLine) : Type 0 where
+pub record MeetsRunRules (graph : GraphTree) (trace : List Message) (log : Ticks) (lines : List OutLine) : Type 0 where
   pub serial : Serial
   pub along : handled_along graph trace log ≡ Some serial
   pub all : AllHandled graph serial
@@ -27,16 +27,12 @@ pub record IsJudgedRun (graph : GraphTree) (trace : List Message) (log : Ticks) 
   pub shown : lines ≡ sort_by line_before serial.lines
   pub ends : length log ≡ max (busy_until log (length log)) (latest lines)
 
--- a graph and a trace that can be run, where the rule's logs keep the deadlines of the graph's tasks
-pub record IsSchedulable (g : GraphTree) (trace : List Message) : Type 0 where
-  pub can : CanRun g trace
-  pub keeps : RuleKeeps (tasks_of g)
-
--- this is all: a log and lines that satisfy it keep every promise of a run; and there is one such log with its lines
-pub record RunsAreJudged : Type 0 where
+-- where the rule's logs keep the deadlines of the graph's tasks this is all that is promised of a run; and at most one log, with its
+-- lines, keeps every promise
+pub record RunRulesAreExact : Type 0 where
   pub exact :
       (g : GraphTree) (trace : List Message) → IsSchedulable g trace → (log : Ticks) (lines : List OutLine) →
-      IsJudgedRun g trace log lines ↔ IsPromisedRun g trace log lines
+      MeetsRunRules g trace log lines ↔ IsPromisedRun g trace log lines
   pub one :
       (g : GraphTree) (trace : List Message) → CanRun g trace → (a b : Ticks) (lines more : List OutLine) →
       IsPromisedRun g trace a lines → IsPromisedRun g trace b more → (a ≡ b) × (lines ≡ more)
