@@ -8,16 +8,16 @@ use Rattle.yt_log.specs.declared.job.Job.{Job}
 use Rattle.yt_rates.specs.Rates.{every_of, period_of}
 use Rattle.yt_serial.specs.PortMessages.{PortMessage, passed}
 use Rattle.yt_chan.specs.declared.wire.Wire.{Wire}
-use Rattle.yt_chan.specs.Traffic.{passed_over}
-use Rattle.yt_chan.specs.Waiting as waiting
+use Rattle.yt_chan.specs.State.{passed_over}
+use Rattle.yt_chan.specs.Pending.{Pending, with_ticks}
 use Rattle.yt_interleave.specs.Carrying.{as_message, IsTimedAs}
 use Rattle.yt_interleave.specs.Waits.{MessagesWait, timed}
 
-as_timed : (number time gap : ℕ) (messages : List (List ℤ)) → map as_message (waiting.timed number time gap messages) ≡ timed time gap messages
+as_timed : (number time gap : ℕ) (messages : List (List ℤ)) → map as_message (with_ticks number time gap messages) ≡ timed time gap messages
 as_timed number time gap [] = refl
 as_timed number time gap (values ∷ rest) = ap (λ (ms : List PortMessage). (record { time = time; values = values }) ∷ ms) (as_timed number (time + gap) gap rest)
 
-as_either : (b : Bool) (messages : List waiting.Waiting) → map as_message (cond b messages []) ≡ cond b (map as_message messages) []
+as_either : (b : Bool) (messages : List Pending) → map as_message (cond b messages []) ≡ cond b (map as_message messages) []
 as_either true messages = refl
 as_either false messages = refl
 
@@ -27,8 +27,8 @@ pub as_passed : MessagesWait → (g : GraphTree) (p : PortTree) (n : ℕ) (wire 
 as_passed law g p n wire job arrival sends is =
     let ms = messages_on n sends in
     let made : ℕ → ℕ → ℕ → List PortMessage = λ every period gap. cond (eqb (job.number % every) 0) (timed (arrival + period) gap ms) [] in
-    ap (map as_message) (cond-true (eqb wire.port job.task) (cond (eqb (job.number % wire.every) 0) (waiting.timed job.number (arrival + wire.period) wire.gap ms) []) [] (eq-eqb wire.port job.task is.port))
-    ∙ as_either (eqb (job.number % wire.every) 0) (waiting.timed job.number (arrival + wire.period) wire.gap ms)
+    ap (map as_message) (cond-true (eqb wire.port job.task) (cond (eqb (job.number % wire.every) 0) (with_ticks job.number (arrival + wire.period) wire.gap ms) []) [] (eq-eqb wire.port job.task is.port))
+    ∙ as_either (eqb (job.number % wire.every) 0) (with_ticks job.number (arrival + wire.period) wire.gap ms)
     ∙ ap (λ (xs : List PortMessage). cond (eqb (job.number % wire.every) 0) xs []) (as_timed job.number (arrival + wire.period) wire.gap ms)
     ∙ ap (λ (e : ℕ). made e wire.period wire.gap) is.every
     ∙ ap (λ (q : ℕ). made (every_of p n) q wire.gap) is.period

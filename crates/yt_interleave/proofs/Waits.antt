@@ -12,7 +12,8 @@ use Rattle.yt_graph.specs.declared.port.Feed.{Feed}
 use Rattle.yt_graph.specs.declared.port.Feed.TheVariants.{Input, Out}
 use Rattle.yt_graph.specs.Cost.{greatest_sends}
 use Rattle.yt_rates.specs.Faults.{IsWithinRates}
-use Rattle.yt_serial.proofs.Lemmas.{inputs_stay, next_multiple, numbered_far, placed_at, serial_holds, lines_hold, TimesRise, period_some}
+use Rattle.yt_log.proofs.Multiples.{next_multiple}
+use Rattle.yt_serial.proofs.Lemmas.{inputs_stay, numbered_far, placed_at, serial_holds, lines_hold, TimesRise, period_some}
 use Rattle.yt_graph.specs.Picture.{GraphTree, PortTree}
 use Rattle.yt_log.specs.Tasks.{Has}
 use Rattle.yt_code.specs.Outbox.{messages_on}

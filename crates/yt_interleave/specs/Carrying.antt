@@ -7,11 +7,11 @@ use Rattle.yt_log.specs.declared.job.Job.{Job}
 use Rattle.yt_rates.specs.Rates.{every_of, period_of, gap_of}
 use Rattle.yt_serial.specs.PortMessages.{PortMessage, passed}
 use Rattle.yt_chan.specs.declared.wire.Wire.{Wire}
-use Rattle.yt_chan.specs.Traffic.{passed_over}
-use Rattle.yt_chan.specs.Waiting.{Waiting}
+use Rattle.yt_chan.specs.State.{passed_over}
+use Rattle.yt_chan.specs.Pending.{Pending}
 
 -- a message that waits, as a message at a port
-abbrev pub as_message : Waiting → PortMessage
+abbrev pub as_message : Pending → PortMessage
 as_message m = record { time = m.time; values = m.values }
 
 -- a wire of a port passes on what the port's jobs send on an out: it has the out's `every`, the port's period and the out's gap

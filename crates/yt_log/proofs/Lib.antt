@@ -25,6 +25,7 @@ pub mod Keeping
 pub mod LastItems
 pub mod Leasts
 pub mod Made
+pub mod Multiples
 pub mod Overloads
 pub mod PatternPlans
 pub mod Periods

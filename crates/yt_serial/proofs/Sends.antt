@@ -1,9 +1,7 @@
 -- When the messages of one job's sends come.
-use Rattle.std.proofs.Common.{◌≡◌, ℕ, zero, suc, ◌+◌, ◌*◌, ◌/◌, ◌%◌, ◌<◌, ◌≤◌, true, false, eqb, List, [], ◌∷◌, slice_get, Some, sym, ap, subst, ⊎_elim, arith}
-use Rattle.std.proofs.lemmas.Bool.{cases_Bool, cases_lt, cond-true, cond-false}
+use Rattle.std.proofs.Common.{◌≡◌, ℕ, zero, suc, ◌+◌, ◌*◌, ◌≤◌, true, false, eqb, List, [], ◌∷◌, slice_get, Some, sym, ap, subst, ⊎_elim, arith}
+use Rattle.std.proofs.lemmas.Bool.{cases_Bool, cond-true, cond-false}
 use Rattle.std.proofs.lemmas.Option.{none-some, same_Some}
-use Rattle.std.proofs.lemmas.Nat.{mul-le}
-use Rattle.std.proofs.Math.Nat.{mod-add-div}
 use Rattle.yt_graph.specs.declared.handled.SendItem.{SendItem}
 use Rattle.yt_graph.specs.Cost.{one_if_same, sent_on}
 use Rattle.yt_serial.specs.PortMessages.{PortMessage, spaced}
@@ -64,13 +62,3 @@ spaced_spread out time gap (s ∷ sends) =
     (spaced_spread out (time + gap) gap sends)))
     (λ (e : eqb out s.out ≡ false). subst (IsSpread gap) (sym (spaced_other out time gap s sends e)) (spaced_spread out time gap sends))
     (cases_Bool (eqb out s.out))
-
--- the greater of two multiples of a number is at least that number more
-pub next_multiple : (e a b : ℕ) → a % e ≡ 0 → b % e ≡ 0 → a < b → a + e ≤ b
-next_multiple e a b m n lt =
-    let p = mod-add-div a e in
-    let q = mod-add-div b e in
-    ⊎_elim
-    (λ (l : a / e < b / e). let h : e * suc (a / e) ≤ e * (b / e) = mul-le e (suc (a / e)) e (b / e) (omega arith) (omega arith) in omega arith)
-    (λ (l : b / e ≤ a / e). let h : e * (b / e) ≤ e * (a / e) = mul-le e (b / e) e (a / e) (omega arith) l in absurd (omega arith))
-    (cases_lt (a / e) (b / e))

@@ -27,7 +27,8 @@ use Rattle.yt_rates.proofs.Chains.{source}
 use Rattle.yt_serial.specs.PortMessages.{PortMessage, numbered, spaced, passed}
 use Rattle.yt_serial.specs.SerialHandling.{Handled, Serial, messages_at, items_of, handled_of, brought, placed, all_shown}
 use Rattle.yt_serial.proofs.Orderly.{AreOrderly, none, orderly_push}
-use Rattle.yt_serial.proofs.Sends.{spaced_within, spaced_spread, next_multiple}
+use Rattle.yt_log.proofs.Multiples.{next_multiple}
+use Rattle.yt_serial.proofs.Sends.{spaced_within, spaced_spread}
 use Rattle.yt_serial.proofs.SerialStates.{placed_at, placed-length, port_there, BringsOf, brings}
 use Rattle.yt_serial.proofs.Spread.{get_cases, numbered_left, IsSpread, spread_behind, numbered_far, numbered_apart}
 

@@ -1,0 +1,5 @@
+use Rattle.yt_chan.specs.Inside.Next.{Adds, AmongOutputs, targets_of}
+use Rattle.yt_chan.proofs.next.add_outputs.Given as goal
+
+abbrev pub invariant-loop-number : goal.invariant-loop-number
+invariant-loop-number l = Adds (targets_of l.wires l.queues l.ports l.outputs) l.initial.heads l.heads (AmongOutputs l.numbers l.number-index)
