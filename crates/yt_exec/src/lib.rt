@@ -14,6 +14,3 @@ mod plays;
 pub use body::{Body, Turn};
 pub use executive::{Executive, Ticked};
 pub use plays::play;
-
-#[cfg(test)]
-mod tests;

@@ -15,6 +15,3 @@ pub use interval::{Breach, interval_plain};
 pub use laws::worked_intervals;
 pub use sums::{LoadSum, TooWide, load};
 pub use unfit::{Unfit, fits};
-
-#[cfg(test)]
-mod tests;

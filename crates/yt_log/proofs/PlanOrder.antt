@@ -8,11 +8,6 @@ pub arrive_more : (t : ℕ) (xs : List PlanItem) (x : PlanItem) → ArriveFrom t
 arrive_more t [] x h le = (le, tt)
 arrive_more t (y ∷ xs) x h le = (h.0, arrive_more y.arrival xs x h.1 le)
 
--- the last arrival is then the item's
-pub last_from-push : (t : ℕ) (xs : List PlanItem) (x : PlanItem) → last_from t (xs ++ x ∷ []) ≡ x.arrival
-last_from-push t [] x = refl
-last_from-push t (y ∷ xs) x = last_from-push y.arrival xs x
-
 -- the last arrival is that of the item at the last place
 pub last_from-last : (t : ℕ) (xs : List PlanItem) (x : PlanItem) → 0 < length xs → x ≡ get_or xs (length xs - 1) x → x.arrival ≡ last_from t xs
 last_from-last t [] x some at = absurd (omega arith)

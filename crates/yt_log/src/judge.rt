@@ -11,6 +11,3 @@ pub use miss::first_miss;
 
 /// How many tasks a set has at most.
 const MOST_TASKS: usize = 64;
-
-#[cfg(test)]
-mod tests;

@@ -33,6 +33,3 @@ pub use log::Log;
 pub use plan::{Plan, PlanItem};
 pub use put::put_segment;
 pub use read::{PlanFault, read_plan};
-
-#[cfg(test)]
-mod tests;

@@ -17,8 +17,6 @@ mod refused;
 mod stream;
 mod table;
 mod tasks;
-#[cfg(test)]
-mod tests;
 
 pub use accepted::Accepted;
 pub use accepting::accept;

@@ -21,6 +21,3 @@ pub use put::put_task;
 pub use read::{LineFault, SetFault, read_set};
 pub use set::TaskSet;
 pub use task::Task;
-
-#[cfg(test)]
-mod tests;

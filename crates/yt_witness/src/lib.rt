@@ -11,6 +11,3 @@ mod pattern;
 
 pub use arrivals::{Arrivals, arrive};
 pub use pattern::{Pattern, witness};
-
-#[cfg(test)]
-mod tests;

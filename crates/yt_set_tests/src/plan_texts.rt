@@ -1,7 +1,8 @@
-use super::*;
+//! Texts of plans.
 use std::alloc::Global;
 use std::test::Fail;
 use yt_base::Line;
+use yt_log::{Job, PlanFault, PlanItem, read_plan};
 use yt_set::{NamedSet, SetFault, read_set};
 
 /// Texts of plans of the tasks `A 5 10` and `B 3 20`, and their faults.
@@ -36,8 +37,8 @@ const TEXTS: [(&str, Option<PlanFault>); 22] = [
     ("0 A 6\n0 A", Some(PlanFault::Cost(1))),
 ];
 
-/// The set of a text.
-fn set_of(alloc: Global, text: &[u8]) -> Result<NamedSet, Fail> {
+/// The set of a text, with its names.
+fn named_set(alloc: Global, text: &[u8]) -> Result<NamedSet, Fail> {
     match read_set(alloc, &text[..text.len().min(10_000)]) {
         Ok(set) => Ok(set),
         Err(SetFault::Line(_, _)) => Err("no set".into()),
@@ -57,7 +58,7 @@ fn fault(alloc: Global, set: &NamedSet, text: &[u8]) -> Result<Option<PlanFault>
 #[test]
 fn the_first_fault_is_told(rt: HostRuntime) -> Result<(), Fail> {
     let alloc = rt.alloc();
-    let set = set_of(alloc, b"task A 5 10\ntask B 3 20")?;
+    let set = named_set(alloc, b"task A 5 10\ntask B 3 20")?;
     for (text, expected) in &TEXTS {
         assert_eq!(rt;
             fault(alloc, &set, text.as_bytes())?,
@@ -71,7 +72,7 @@ fn the_first_fault_is_told(rt: HostRuntime) -> Result<(), Fail> {
 #[test]
 fn jobs_are_numbered_by_task(rt: HostRuntime) -> Result<(), Fail> {
     let alloc = rt.alloc();
-    let set = set_of(alloc, b"task A 5 10\ntask B 3 20")?;
+    let set = named_set(alloc, b"task A 5 10\ntask B 3 20")?;
     let Ok(plan) = read_plan(alloc, &set, b"0 A 5\n3 B 1\n\n10 A 2") else {
         return Err("no plan".into());
     };
@@ -97,7 +98,7 @@ fn item(job: (u32, u32, u64, u64)) -> PlanItem {
 #[test]
 fn a_plan_has_at_most_20_000_jobs(rt: HostRuntime) -> Result<(), Fail> {
     let alloc = rt.alloc();
-    let set = set_of(alloc, b"task A 1 1")?;
+    let set = named_set(alloc, b"task A 1 1")?;
     let mut text = Vec::new(alloc);
     for n in 0..20_000u64 {
         let mut line = Line::new();
@@ -108,75 +109,5 @@ fn a_plan_has_at_most_20_000_jobs(rt: HostRuntime) -> Result<(), Fail> {
     assert_eq!(rt; fault(alloc, &set, &text)?, None);
     text.extend_from_slice(b"20000 A 1")?;
     assert_eq!(rt; fault(alloc, &set, &text)?, Some(PlanFault::Many(20_001)));
-    Ok(())
-}
-
-/// Jobs, each its task, number, arrival and cost, and whether they are a legal plan.
-const PLANS: [(&[(u32, u32, u64, u64)], bool); 14] = [
-    (&[], true),
-    (&[(1, 1, 0, 5), (2, 1, 0, 3), (1, 2, 10, 1)], true),
-    (&[(1, 1, 0, 5), (2, 1, 0, 3), (1, 2, 9, 1)], false),
-    (&[(2, 1, 5, 3), (1, 1, 6, 5), (2, 2, 24, 3)], false),
-    (&[(2, 1, 5, 3), (1, 1, 6, 5), (2, 2, 25, 3)], true),
-    (&[(1, 2, 0, 5)], false),
-    (&[(1, 1, 0, 5), (1, 1, 10, 5)], false),
-    (&[(1, 0, 0, 5)], false),
-    (&[(1, 1, 0, 6)], false),
-    (&[(1, 1, 0, 0)], false),
-    (&[(0, 1, 0, 1)], false),
-    (&[(3, 1, 0, 1)], false),
-    (&[(1, 1, 8_000_000, 1)], true),
-    (&[(1, 1, 8_000_001, 1)], false),
-];
-
-/// The jobs as a plan.
-fn plan_of(alloc: Global, jobs: &[(u32, u32, u64, u64)]) -> Result<Plan, Fail> {
-    let mut plan = Plan::new(alloc);
-    for job in jobs {
-        let item = item(*job);
-        if item.arrival < plan.last_arrival() {
-            return Err("out of order".into());
-        }
-        plan.push(item)?;
-    }
-    Ok(plan)
-}
-
-#[test]
-fn plans_are_legal_or_not(rt: HostRuntime) -> Result<(), Fail> {
-    let alloc = rt.alloc();
-    let set = set_of(alloc, b"task A 5 10\ntask B 3 20")?;
-    for (jobs, expected) in &PLANS {
-        let plan = plan_of(alloc, jobs)?;
-        assert_eq!(rt; plan.legal(set.set()), *expected);
-    }
-    Ok(())
-}
-
-#[test]
-fn the_horizon_is_the_greatest_deadline(rt: HostRuntime) -> Result<(), Fail> {
-    let alloc = rt.alloc();
-    let set = set_of(alloc, b"task A 5 10\ntask B 3 20")?;
-    let plan = plan_of(alloc, &[(2, 1, 3, 1), (1, 1, 4, 1)])?;
-    let tasks = set.set();
-    let legal = plan.legal(tasks);
-    assert!(rt; legal);
-    if legal {
-        assert_eq!(rt; plan.horizon(tasks), 23);
-    }
-    Ok(())
-}
-
-#[test]
-fn segments_are_put(rt: HostRuntime) -> Result<(), Fail> {
-    let job = Job { task: 2, number: 7 };
-    let mut line = Line::new();
-    let first = Segment {
-        from: 0,
-        to: 12,
-        job,
-    };
-    put_segment(&mut line, first, b"cam.frame");
-    assert_eq!(rt; line.bytes(), b"run 0 12 cam.frame 7".as_slice());
     Ok(())
 }

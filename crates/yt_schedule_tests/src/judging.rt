@@ -1,10 +1,8 @@
-use super::*;
-use crate::job::Job;
-use crate::log::Log;
-use crate::plan::{Plan, PlanItem};
+//! Logs, judged by the rules and by their deadlines.
+use crate::fixtures::{JobRow, TaskRow, plan_of, set_of};
 use std::alloc::Global;
 use std::test::Fail;
-use yt_set::{Task, TaskSet};
+use yt_log::{Job, Log, Rule, first_broken, first_miss};
 
 const A: Job = Job { task: 1, number: 1 };
 
@@ -15,46 +13,10 @@ const K: Job = Job { task: 2, number: 1 };
 const B: Job = Job { task: 3, number: 1 };
 
 /// A short period without a resource, and two tasks that share one, of which the second is long.
-const SHARING: [Task; 3] = [
-    Task {
-        cost: 2,
-        period: 5,
-        resource: 0,
-    },
-    Task {
-        cost: 1,
-        period: 8,
-        resource: 1,
-    },
-    Task {
-        cost: 4,
-        period: 40,
-        resource: 1,
-    },
-];
+const SHARING: [TaskRow; 3] = [(2, 5, 0), (1, 8, 1), (4, 40, 1)];
 
-const JOBS: [PlanItem; 4] = [
-    PlanItem {
-        job: B,
-        arrival: 0,
-        cost: 4,
-    },
-    PlanItem {
-        job: A,
-        arrival: 1,
-        cost: 2,
-    },
-    PlanItem {
-        job: K,
-        arrival: 1,
-        cost: 1,
-    },
-    PlanItem {
-        job: A_2,
-        arrival: 6,
-        cost: 2,
-    },
-];
+/// Jobs of these, in the order in which they arrive: `B`, `A`, `K` and `A_2`.
+const JOBS: [JobRow; 4] = [(3, 1, 0, 4), (1, 1, 1, 2), (2, 1, 1, 1), (1, 2, 6, 2)];
 
 /// Logs of these jobs, the ticks that they have, and what they break first.
 const BROKEN: [(&[(u64, u64, Job)], u64, Option<(u64, Rule)>); 13] = [
@@ -106,37 +68,10 @@ const MISSES: [(&[(u64, u64, Job)], u64, Option<Job>); 9] = [
     (&[(0, 2, A_2), (2, 4, A), (4, 5, K), (5, 8, B)], 40, Some(B)),
 ];
 
-/// A plan of two tasks with the same deadline.
-const EQUALS: [PlanItem; 2] = [
-    PlanItem {
-        job: K,
-        arrival: 0,
-        cost: 3,
-    },
-    PlanItem {
-        job: A,
-        arrival: 0,
-        cost: 3,
-    },
-];
+/// Jobs of two tasks with the same deadline, `K` and `A`.
+const EQUALS: [JobRow; 2] = [(2, 1, 0, 3), (1, 1, 0, 3)];
 
-fn set_of(alloc: Global, tasks: &[Task]) -> Result<TaskSet, Fail> {
-    match TaskSet::new(Vec::from_slice(alloc, tasks)?) {
-        Ok(set) => Ok(set),
-        Err(_) => Err("no set".into()),
-    }
-}
-
-fn plan_of(alloc: Global, items: &[PlanItem]) -> Result<Plan, Fail> {
-    let mut plan = Plan::new(alloc);
-    for item in items {
-        if plan.last_arrival() <= item.arrival {
-            plan.push(*item)?;
-        }
-    }
-    Ok(plan)
-}
-
+/// The log in which jobs have these ticks, each from one to before another, and of so many ticks where it isn't longer.
 fn log_of(alloc: Global, runs: &[(u64, u64, Job)], until: u64) -> Result<Log, Fail> {
     let mut log = Log::new(alloc);
     for (from, to, job) in runs {
@@ -188,12 +123,7 @@ fn the_first_miss_is_told(rt: HostRuntime) -> Result<(), Fail> {
 #[test]
 fn of_equal_deadlines_the_first_task_misses(rt: HostRuntime) -> Result<(), Fail> {
     let alloc = rt.alloc();
-    let task = Task {
-        cost: 3,
-        period: 5,
-        resource: 0,
-    };
-    let set = set_of(alloc, &[task, task])?;
+    let set = set_of(alloc, &[(3, 5, 0), (3, 5, 0)])?;
     let plan = plan_of(alloc, &EQUALS)?;
     let log = log_of(alloc, &[(0, 2, K)], 5)?;
     if !plan.legal(&set) || log.until() < 5 {

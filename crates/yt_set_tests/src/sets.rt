@@ -1,7 +1,8 @@
-use super::*;
+//! Texts of sets, sets in range, and what a set tells.
 use std::alloc::Global;
 use std::test::Fail;
 use yt_base::Line;
+use yt_set::{LineFault, SetFault, Task, TaskSet, put_task, read_set};
 
 /// The fault of a text; `None` where it says a set.
 fn fault(alloc: Global, text: &[u8]) -> Result<Option<(u32, LineFault)>, Fail> {

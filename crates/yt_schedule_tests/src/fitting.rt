@@ -1,23 +1,8 @@
-use super::*;
+//! Whether sets fit, by their load and by the room that jobs leave.
+use crate::fixtures::{TaskRow, set_of};
 use std::alloc::Global;
 use std::test::Fail;
-use yt_set::{Task, TaskSet};
-
-/// The set of these tasks, each by its cost, its period and its resource.
-fn set_of(alloc: Global, tasks: &[(u64, u64, u32)]) -> Result<TaskSet, Fail> {
-    let mut list = Vec::new(alloc);
-    for (cost, period, resource) in tasks {
-        list.push(Task {
-            cost: *cost,
-            period: *period,
-            resource: *resource,
-        })?;
-    }
-    match TaskSet::new(list) {
-        Ok(set) => Ok(set),
-        Err(_) => Err("no set".into()),
-    }
-}
+use yt_fits::{Breach, LoadSum, Unfit, fits, interval_plain};
 
 /// Whether tasks of cost 1 and these periods fit.
 fn answer(alloc: Global, periods: &[u64]) -> Result<Result<LoadSum, Unfit>, Fail> {
@@ -72,8 +57,8 @@ fn loads_up_to_the_whole_fit(rt: HostRuntime) -> Result<(), Fail> {
     Ok(())
 }
 
-/// Three tasks, by cost, period and resource, and where the first of them lacks room: the task, the span and the need.
-const INTERVALS: [([(u64, u64, u32); 3], Option<(u32, u64, u128)>); 7] = [
+/// Three tasks, and where the first of them lacks room: the task, the span and the need.
+const INTERVALS: [([TaskRow; 3], Option<(u32, u64, u128)>); 7] = [
     ([(1, 4, 1), (5, 20, 1), (1, 20, 0)], Some((2, 5, 6))),
     ([(1, 4, 1), (4, 20, 1), (1, 20, 0)], None),
     ([(3, 6, 0), (1, 5, 1), (5, 30, 1)], Some((3, 7, 9))),

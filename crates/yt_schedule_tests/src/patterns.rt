@@ -1,12 +1,11 @@
-use super::*;
-use std::alloc::Global;
+//! Patterns of arrivals with which sets that don't fit miss.
+use crate::fixtures::{TaskRow, set_of};
 use std::test::Fail;
 use yt_fits::fits;
-use yt_set::{Task, TaskSet};
+use yt_witness::{Pattern, arrive, witness};
 
-/// Two tasks that don't fit, by cost, period and resource; their pattern; and the arrivals of each task in it, by first tick,
-/// step, count and cost.
-const PATTERNS: [([(u64, u64, u32); 2], Pattern, [(u64, u64, u128, u64); 2]); 3] = [
+/// Two tasks that don't fit; their pattern; and the arrivals of each task in it, by first tick, step, count and cost.
+const PATTERNS: [([TaskRow; 2], Pattern, [(u64, u64, u128, u64); 2]); 3] = [
     (
         [(5, 10, 0), (11, 20, 0)],
         Pattern::All { upto: 20 },
@@ -23,22 +22,6 @@ const PATTERNS: [([(u64, u64, u32); 2], Pattern, [(u64, u64, u128, u64); 2]); 3]
         [(0, 100, 1, 10), (1, 9, 1, 1)],
     ),
 ];
-
-/// The set of two tasks.
-fn set_of(alloc: Global, tasks: &[(u64, u64, u32); 2]) -> Result<TaskSet, Fail> {
-    let mut list = Vec::new(alloc);
-    for (cost, period, resource) in tasks {
-        list.push(Task {
-            cost: *cost,
-            period: *period,
-            resource: *resource,
-        })?;
-    }
-    match TaskSet::new(list) {
-        Ok(set) => Ok(set),
-        Err(_) => Err("no set".into()),
-    }
-}
 
 #[test]
 fn a_set_that_does_not_fit_has_a_pattern(rt: HostRuntime) -> Result<(), Fail> {
