@@ -1,6 +1,6 @@
 //! Tokens of texts.
 
-use crate::trees::front;
+use crate::texts::front;
 use std::test::Fail;
 use yt_graph::Place;
 use yt_lexer::TokenKind::{Key, Number, Symbol, Word};

@@ -1,19 +1,12 @@
-//! Tests of the text side: of opened trees (`yt_graph`), tokens (`yt_lexer`), the grammar both ways (`yt_parser`) and names
-//! (`yt_names`).
+//! Tests of how texts of graphs are read: their tokens (`yt_lexer`), and the trees that they spell (`yt_parser`).
 //!
 //! This crate has nothing but tests, and no crate stands on it. It knows the public calls of those crates alone. Its tests show
-//! what no clause says: that memory suffices for texts of ordinary size, and that the answers are those worked out by hand.
+//! what no clause says: that memory suffices for ordinary texts, and that the answers are those worked out by hand.
 #![tactic(auto)]
 
 #[cfg(test)]
-mod graph;
-#[cfg(test)]
 mod lexer;
-#[cfg(test)]
-mod names;
 #[cfg(test)]
 mod parser;
 #[cfg(test)]
-mod printer;
-#[cfg(test)]
-mod trees;
+mod texts;

@@ -1,6 +1,6 @@
 //! From texts to their trees.
 
-use crate::trees::front;
+use crate::texts::front;
 use std::alloc::Global;
 use std::test::Fail;
 use yt_graph::{

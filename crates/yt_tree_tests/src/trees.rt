@@ -1,17 +1,8 @@
-//! Pieces of trees and texts that several tests use.
-ghost use Rattle.std.specs.Prelude.{◌≤◌, length};
+//! Pieces of trees that several tests use.
 
 use std::alloc::{AllocError, Global};
 use yt_graph::{Num, Place, Word};
 use yt_list::Name;
-
-/// The front of a text: all of it where it isn't long.
-pub(crate) fn front(text: &str) -> &[u8]
-    ensures { length result.now ≤ 1000 }
-{
-    let bytes = text.as_bytes();
-    &bytes[..bytes.len().min(1000)]
-}
 
 /// A column of the first line.
 fn column(col: u32) -> Place {
