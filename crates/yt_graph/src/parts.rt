@@ -78,33 +78,3 @@ pub fn open(s: &Stmt) -> Parts<'_>
         Stmt::Repeat { count, max, body } => Parts::Repeat(count, *max, body),
     }
 }
-
-#[cfg(test)]
-mod tests {
-    use super::*;
-    use std::test::Fail;
-
-    #[test]
-    fn opens_what_was_built(rt: HostRuntime) -> Result<(), Fail> {
-        let alloc = rt.alloc();
-        let args = vec![in alloc; Expr::Local(0), Expr::Num(-3)]?;
-        let call = Expr::Call {
-            op: 3,
-            code: 4,
-            ticks: 5,
-            args,
-        };
-        let values = vec![in alloc; Expr::Not(Box::new(alloc, call)?)]?;
-        let s = Stmt::If {
-            test: Expr::Var(2),
-            yes: Vec::new(alloc),
-            no: Some(vec![in alloc; Stmt::Send { out: 1, values }]?),
-        };
-        let Parts::Else(test, yes, no) = open(&s) else {
-            return Err(Fail::from("an `if` with `else`"));
-        };
-        assert!(rt; matches!(test, Expr::Var(2)));
-        assert_eq!(rt; (yes.len(), no.len()), (0, 1));
-        Ok(())
-    }
-}

@@ -13,6 +13,3 @@ mod token;
 pub use lexing::lex;
 pub use places::end_place;
 pub use token::{LexFault, Token, TokenKind, Tokens};
-
-#[cfg(test)]
-mod tests;

@@ -38,6 +38,3 @@ mod uses_var;
 pub use fault::{LimitKind, NameFault};
 pub use laws::{cycles_are_told, resolved_is_well_formed};
 pub use resolving::resolve;
-
-#[cfg(test)]
-mod tests;

@@ -29,8 +29,3 @@ pub use print::print_graph;
 pub use print_laws::printed_is_read;
 pub use sign::{Keyword, Mark};
 pub use writable::ast_ok;
-
-#[cfg(test)]
-mod parser_tests;
-#[cfg(test)]
-mod print_tests;

@@ -1,24 +1,14 @@
-use super::*;
+//! From trees to their texts, and which trees have one.
+
+use crate::trees::{num, word};
 use std::alloc::{AllocError, Global};
 use std::test::Fail;
 use yt_graph::{
-    Ast, AstExpr, AstStmt, Item, Num, Op2, OutDecl, OutDecls, Path, Place, PortDecl, PortDecls,
-    Source, Stmts, VarDecl, VarDecls, Word, Words, ast_call, ast_if, ast_if_else, ast_repeat,
+    Ast, AstExpr, AstStmt, Item, Op2, OutDecl, OutDecls, Path, PortDecl, PortDecls, Source, Stmts,
+    VarDecl, VarDecls, Words, ast_call, ast_if, ast_if_else, ast_repeat,
 };
-use yt_list::{Items, Name};
-
-const HERE: Place = Place { line: 1, col: 1 };
-
-fn word(alloc: Global, text: &str) -> Result<Word, AllocError> {
-    Ok(Word {
-        text: Name::from_vec(text.as_bytes().to_vec(alloc)?),
-        place: HERE,
-    })
-}
-
-fn num(value: i64) -> Num {
-    Num { value, place: HERE }
-}
+use yt_list::Items;
+use yt_parser::{ast_ok, print_graph};
 
 fn name(alloc: Global, text: &str) -> Result<AstExpr, AllocError> {
     Ok(AstExpr::Name(word(alloc, text)?))

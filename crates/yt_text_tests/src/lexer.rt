@@ -1,14 +1,10 @@
-use super::*;
-use TokenKind::{Key, Number, Symbol, Word};
-use std::alloc::Global;
+//! Tokens of texts.
+
+use crate::texts::front;
 use std::test::Fail;
 use yt_graph::Place;
-
-/// What is answered for the text, cut off where it is long.
-fn answer(alloc: Global, text: &str) -> Result<Tokens, LexFault> {
-    let bytes = text.as_bytes();
-    lex(alloc, &bytes[..bytes.len().min(1000)])
-}
+use yt_lexer::TokenKind::{Key, Number, Symbol, Word};
+use yt_lexer::{LexFault, lex};
 
 #[test]
 fn texts_have_their_tokens(rt: HostRuntime) -> Result<(), Fail> {
@@ -66,7 +62,7 @@ fn texts_have_their_tokens(rt: HostRuntime) -> Result<(), Fail> {
         (" \t\r\n", [].as_slice()),
     ] {
         let mut told = Vec::new(rt.alloc());
-        let tokens = answer(rt.alloc(), text).ok().ok_or("a fault")?;
+        let tokens = lex(rt.alloc(), front(text)).ok().ok_or("a fault")?;
         for token in tokens.as_slice() {
             told.push((
                 token.kind,
@@ -113,7 +109,11 @@ fn texts_have_their_first_fault(rt: HostRuntime) -> Result<(), Fail> {
             LexFault::BadByte(Place { line: 1, col: 1 }),
         ),
     ] {
-        assert_eq!(rt; answer(rt.alloc(), text).err(), Some(fault), "at {text}");
+        assert_eq!(rt;
+            lex(rt.alloc(), front(text)).err(),
+            Some(fault),
+            "at {text}"
+        );
     }
     Ok(())
 }

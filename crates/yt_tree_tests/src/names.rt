@@ -1,36 +1,23 @@
-use super::*;
+//! What the names of small trees stand for.
+
+use crate::trees::{num_at, word_at};
 use std::alloc::Global;
 use std::test::Fail;
 use yt_graph::{
-    Ast, AstExpr, AstStmt, Feed, Item, Num, Op2, OutDecl, OutDecls, Path, Place, PortDecl,
-    PortDecls, Source, VarDecls, Word, Words,
+    Ast, AstExpr, AstStmt, Feed, Item, Op2, OutDecl, OutDecls, Path, Place, PortDecl, PortDecls,
+    Source, VarDecls, Words,
 };
-use yt_list::{Items, Name};
-
-/// A word at a column of the first line.
-fn word(alloc: Global, text: &str, col: u32) -> Result<Word, Fail> {
-    Ok(Word {
-        text: Name::from_vec(Vec::from_slice(alloc, text.as_bytes())?),
-        place: Place { line: 1, col },
-    })
-}
-
-/// A number at a column of the first line.
-fn num(value: i64, col: u32) -> Num {
-    Num {
-        value,
-        place: Place { line: 1, col },
-    }
-}
+use yt_list::Items;
+use yt_names::{NameFault, resolve};
 
 /// `output led from p.a.o`
 fn output(alloc: Global) -> Result<Item, Fail> {
     Ok(Item::Output {
-        name: word(alloc, "led", 8)?,
+        name: word_at(alloc, "led", 8)?,
         path: Path {
-            process: word(alloc, "p", 17)?,
-            port: word(alloc, "a", 19)?,
-            out: word(alloc, "o", 21)?,
+            process: word_at(alloc, "p", 17)?,
+            port: word_at(alloc, "a", 19)?,
+            out: word_at(alloc, "o", 21)?,
         },
     })
 }
@@ -38,35 +25,35 @@ fn output(alloc: Global) -> Result<Item, Fail> {
 /// `process p { port a from tick (v) out o(1) { send o (v + 1) } }`
 fn process(alloc: Global) -> Result<Item, Fail> {
     let mut params = Words::new(alloc);
-    params.push(word(alloc, "v", 53)?)?;
+    params.push(word_at(alloc, "v", 53)?)?;
     let mut outs = OutDecls::new(alloc);
     outs.push(OutDecl {
-        name: word(alloc, "o", 60)?,
-        width: num(1, 62),
+        name: word_at(alloc, "o", 60)?,
+        width: num_at(1, 62),
         every: None,
     })?;
     let sum = AstExpr::Two {
         op: Op2::Add,
-        left: Box::new(alloc, AstExpr::Name(word(alloc, "v", 75)?))?,
+        left: Box::new(alloc, AstExpr::Name(word_at(alloc, "v", 75)?))?,
         right: Box::new(alloc, AstExpr::Num(1))?,
     };
     let mut values = Vec::new(alloc);
     values.push(sum)?;
     let mut body = Vec::new(alloc);
     body.push(AstStmt::Send {
-        out: word(alloc, "o", 72)?,
+        out: word_at(alloc, "o", 72)?,
         values,
     })?;
     let mut ports = PortDecls::new(alloc);
     ports.push(PortDecl {
-        name: word(alloc, "a", 40)?,
-        source: Source::Input(word(alloc, "tick", 47)?),
+        name: word_at(alloc, "a", 40)?,
+        source: Source::Input(word_at(alloc, "tick", 47)?),
         params,
         outs,
         body,
     })?;
     Ok(Item::Process {
-        name: word(alloc, "p", 31)?,
+        name: word_at(alloc, "p", 31)?,
         inside: None,
         vars: VarDecls::new(alloc),
         ports,
@@ -80,9 +67,9 @@ fn a_small_tree_is_resolved(rt: HostRuntime) -> Result<(), Fail> {
     items.push(output(alloc)?)?;
     items.push(process(alloc)?)?;
     items.push(Item::Input {
-        name: word(alloc, "tick", 87)?,
-        width: num(1, 92),
-        period: num(10, 102),
+        name: word_at(alloc, "tick", 87)?,
+        width: num_at(1, 92),
+        period: num_at(10, 102),
     })?;
     let graph = resolve(alloc, &Ast { items }, &[]).ok().ok_or("a fault")?;
     assert_eq!(rt; graph.inputs.len(), 1);

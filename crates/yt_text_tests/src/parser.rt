@@ -1,15 +1,17 @@
-use super::*;
+//! From texts to their trees.
+
+use crate::texts::front;
 use std::alloc::Global;
 use std::test::Fail;
 use yt_graph::{
     Ast, AstExpr, AstExprParts, AstParts, Item, Op2, Place, open_ast_expr, open_ast_stmt,
 };
 use yt_lexer::lex;
+use yt_parser::{ParseFault, parse};
 
 /// What is answered for the text, cut off where it is long.
 fn answer(alloc: Global, text: &str) -> Result<Ast, ParseFault> {
-    let bytes = text.as_bytes();
-    let bytes = &bytes[..bytes.len().min(1000)];
+    let bytes = front(text);
     match lex(alloc, bytes) {
         Ok(tokens) => parse(alloc, bytes, &tokens),
         Err(_) => Err(ParseFault::Memory),
