@@ -5,10 +5,6 @@ use Rattle.std.proofs.lemmas.Option.{slice_get_within}
 use Rattle.yt_code.specs.declared.instr.Instr.{Instr}
 use Rattle.yt_code.specs.Valid.{Program, Shape, Leads, IsFine, AreFine, IsValidCode}
 
--- a shape by its numbers
-abbrev pub shape : ℕ → ℕ → Shape
-shape d o = record { depth = d; open_loops = o }
-
 same_length : (all : List Shape) (code : Program) (p : ℕ) (is : List Instr) (ss : List Shape) → AreFine all code p is ss → length is ≡ length ss
 same_length all code p [] [] f = refl
 same_length all code p [] (s ∷ ss) f = absurd f

@@ -12,8 +12,6 @@ mod machine;
 mod outbox;
 mod pile;
 mod stepped;
-#[cfg(test)]
-mod tests;
 
 pub use code::Code;
 pub use instr::{Instr, Instrs};

@@ -9,7 +9,5 @@ pub mod CodeUses
 pub mod CodeShort
 pub mod CodeMade
 pub mod CodeKeeps
-pub mod Examples
 pub mod Compiled
-pub mod NestedLemmas
 pub mod CodeOwn

@@ -5,4 +5,3 @@ pub mod CodeAlone
 pub mod CodeVars
 pub mod Codes
 pub mod Faults
-pub mod Nested

@@ -10,14 +10,8 @@ mod codes;
 mod compiling;
 mod emit;
 mod fault;
-#[cfg(test)]
-mod graph_tests;
 mod laws;
-#[cfg(test)]
-mod machine_tests;
 mod sends;
-#[cfg(test)]
-mod tests;
 mod ticks;
 
 pub use codes::Codes;

@@ -1,4 +1,3 @@
-mod Examples
 pub mod Exprs
 pub mod Forget
 pub mod Ports

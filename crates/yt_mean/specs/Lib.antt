@@ -1,4 +1,3 @@
-pub mod Arithmetic
 pub mod Handled
 pub mod Progress
 pub mod Within

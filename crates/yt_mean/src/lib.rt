@@ -9,8 +9,3 @@ mod value;
 mod walk;
 
 pub use handled::{Handled, handle};
-
-#[cfg(test)]
-mod graph_tests;
-#[cfg(test)]
-mod tests;

@@ -1,0 +1,24 @@
+//! Tests of handlers: what handling a message does (`yt_mean`), code and the machine that steps through it (`yt_code`), and
+//! the code, costs and sends of a graph's ports (`yt_cost`).
+//!
+//! This crate has nothing but tests. They stand above the crates that they test, so that these are proved without them.
+#![tactic(auto)]
+
+#[cfg(test)]
+mod arithmetic;
+#[cfg(test)]
+mod codes;
+#[cfg(test)]
+mod costs;
+#[cfg(test)]
+mod executions;
+#[cfg(test)]
+mod graphs;
+#[cfg(test)]
+mod machines;
+#[cfg(test)]
+mod meanings;
+#[cfg(test)]
+mod nested;
+#[cfg(test)]
+mod trees;
