@@ -138,7 +138,7 @@ fn add_wire(
     );
 }
 
-/// Adds the heads of all that the wires of a port wire.
+/// Adds the heads of all targets that the wires of a port feed.
 pub(crate) fn add_job(
     wires: &[Wire],
     table: &[usize],

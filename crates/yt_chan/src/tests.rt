@@ -1,3 +1,4 @@
+//! Messages on one wire, call by call.
 ghost use Rattle.std.specs.Prelude.{◌≡◌, ◌≤◌, ◌<◌, ◌*◌, ◌/◌, ℕ, IfOk, length, true, slice_index_or};
 ghost use Rattle.yt_chan.specs.Example.{at_start, CanClose, CanDeliver, CanFill, Is, Known, closed, delivered, filled, one_wire, three_ports};
 ghost use Rattle.yt_chan.specs.Wires.{IsWire};

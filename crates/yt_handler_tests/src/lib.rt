@@ -1,7 +1,8 @@
 //! Tests of handlers: what handling a message does (`yt_mean`), code and the machine that steps through it (`yt_code`), and
 //! the code, costs and sends of a graph's ports (`yt_cost`).
 //!
-//! This crate has nothing but tests. They stand above the crates that they test, so that these are proved without them.
+//! This crate has nothing but tests, and no crate stands on it. It knows the public calls of those crates alone. Its tests show
+//! what no clause says: that a call ends well where memory suffices, and that its answer is the one worked out by hand.
 #![tactic(auto)]
 
 #[cfg(test)]

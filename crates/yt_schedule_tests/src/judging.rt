@@ -76,9 +76,10 @@ fn log_of(alloc: Global, runs: &[(u64, u64, Job)], until: u64) -> Result<Log, Fa
     let mut log = Log::new(alloc);
     for (from, to, job) in runs {
         log.tell_idle(*from);
-        if log.until() < 1_000 && *to < 1_000 {
-            log.tell_run(*job, to.saturating_sub(*from))?;
+        if log.until() >= 1_000 || *to >= 1_000 {
+            return Err("too long a log".into());
         }
+        log.tell_run(*job, to.saturating_sub(*from))?;
     }
     log.tell_idle(until);
     Ok(log)
@@ -113,9 +114,10 @@ fn the_first_miss_is_told(rt: HostRuntime) -> Result<(), Fail> {
     }
     for (runs, upto, expected) in &MISSES {
         let log = log_of(alloc, runs, *upto)?;
-        if *upto <= log.until() {
-            assert_eq!(rt; first_miss(&set, &plan, &log, *upto), *expected);
+        if log.until() < *upto {
+            return Err("too short a log".into());
         }
+        assert_eq!(rt; first_miss(&set, &plan, &log, *upto), *expected);
     }
     Ok(())
 }

@@ -1,7 +1,7 @@
-//! Tests of what fits, of patterns of arrivals, and of plans, logs and plays.
+//! Tests of what fits (`yt_fits`), of patterns of arrivals (`yt_witness`), and of plans, logs and plays (`yt_log`, `yt_exec`).
 //!
-//! Nothing but tests is here, and they see what the crates make public. They show what no clause says: that a call ends well where
-//! memory suffices, and that its answer is the one worked out by hand.
+//! This crate has nothing but tests, and no crate stands on it. It knows the public calls of those crates alone. Its tests show
+//! what no clause says: that a call ends well where memory suffices, and that its answer is the one worked out by hand.
 #![tactic(auto)]
 
 #[cfg(test)]

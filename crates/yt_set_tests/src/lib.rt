@@ -1,7 +1,7 @@
-//! Tests of sets, of the texts of sets and plans, and of rates.
+//! Tests of sets (`yt_set`), of the texts of sets and plans (`yt_log`), and of rates (`yt_rates`).
 //!
-//! Nothing but tests is here, and they see what the crates make public. They show what no clause says: that a call ends well where
-//! memory suffices, and that its answer is the one worked out by hand.
+//! This crate has nothing but tests, and no crate stands on it. It knows the public calls of those crates alone. Its tests show
+//! what no clause says: that a call ends well where memory suffices, and that its answer is the one worked out by hand.
 #![tactic(auto)]
 
 #[cfg(test)]

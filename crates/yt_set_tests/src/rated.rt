@@ -95,7 +95,7 @@ fn a_table_tells_period_start_and_gaps(rt: HostRuntime) -> Result<(), Fail> {
     let Ok(table) = rates(alloc, &graph, &codes) else {
         return Err("a fault of rates".into());
     };
-    // Ten messages in ten periods of 10 are 10 apart, and the last comes 100 ticks after the first message of these.
+    // Ten messages in ten periods of 10 are 10 apart, and the last comes 100 ticks after the message that the job handles.
     assert_eq!(rt; table.period(2), 10);
     assert_eq!(rt; table.start(2), 100);
     assert_eq!(rt; table.gap(2, 1), 6);
