@@ -68,6 +68,3 @@ fn out_line(
         values,
     })
 }
-
-#[cfg(test)]
-mod tests;

@@ -1,0 +1,2 @@
+-- A run on one wire, call by call, by which the tests of channels go.
+pub mod Example
