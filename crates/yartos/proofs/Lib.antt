@@ -9,7 +9,6 @@ pub mod RatedAnswers
 pub mod ResolvedCalls
 pub mod RunLemmas
 pub mod RunVerdicts
-pub mod SentLemmas
 pub mod SetTexts
 pub mod ShownTasks
 pub mod StageLemmas

@@ -65,18 +65,3 @@ pub fn yartos<S: Shelf, K: Sink>(
         },
     }
 }
-
-#[cfg(test)]
-mod asked;
-#[cfg(test)]
-mod edges;
-#[cfg(test)]
-mod handlers;
-#[cfg(test)]
-mod plays;
-#[cfg(test)]
-mod rates;
-#[cfg(test)]
-mod sets;
-#[cfg(test)]
-mod tests;

@@ -41,28 +41,3 @@ pub(crate) fn tell<K: Sink>(out: &mut K, status: Status, text: &[u8]) -> Status
         Err(SinkFault::Failed) => Status::WriteFault,
     }
 }
-
-#[cfg(test)]
-mod tests {
-    use super::*;
-    use std::test::Fail;
-    use yt_io::MemSink;
-
-    #[test]
-    fn each_line_is_one_write(rt: HostRuntime) -> Result<(), Fail> {
-        let mut sink = MemSink::with_room(rt.alloc(), 100, vec![in rt.alloc(); (4, 0)]?)?;
-        assert!(rt; write_lines(&mut sink, b"one\n\ntwo\n").is_ok());
-        assert_eq!(rt; sink.bytes(), b"one\n\ntwo\n".as_slice());
-        assert!(rt; write_lines(&mut sink, b"").is_ok());
-        assert!(rt; write_lines(&mut sink, b"end\n").is_err());
-        Ok(())
-    }
-
-    #[test]
-    fn nothing_is_written_after_a_failing_write(rt: HostRuntime) -> Result<(), Fail> {
-        let mut sink = MemSink::with_room(rt.alloc(), 100, vec![in rt.alloc(); (2, 2)]?)?;
-        assert!(rt; write_lines(&mut sink, b"one\ntwo\nthree\n").is_err());
-        assert_eq!(rt; sink.bytes(), b"one\ntw".as_slice());
-        Ok(())
-    }
-}

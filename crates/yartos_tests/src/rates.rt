@@ -1,5 +1,5 @@
-use crate::Status;
-use crate::top::asked::{ask, status_of};
+//! Rates of graphs, their tasks, and whether they fit.
+use crate::asked::{ask, status_of};
 use std::process::Abort;
 use std::test::Fail;
 

@@ -2,8 +2,8 @@ use Rattle.std.proofs.Common.{rules, ◌≡◌, ◌<◌, ◌∙◌, length, true
 use Rattle.std.proofs.lemmas.Bool.Decides.{Decides-int_eq}
 use Rattle.std.proofs.lemmas.Slice.Eq.{slice_eq-Decides}
 use Rattle.yt_graph.specs.declared.handled.SendItem.{SendItem}
-use Rattle.yartos.proofs.SentLemmas.{takes_next}
-use Rattle.yartos.proofs.top.handlers.SameOutbox.send.Goals as goal
+use Rattle.yartos_tests.proofs.SentLemmas.{takes_next}
+use Rattle.yartos_tests.proofs.handlers.SameOutbox.send.Goals as goal
 
 pub returns-clause-added : goal.returns-clause-added
 returns-clause-added g c =

@@ -1,10 +1,8 @@
-use crate::Status;
-use crate::top::asked::ask;
+//! Commands on graphs: their answers and refusals, misuse, and faults of the files and of the sink.
+use crate::asked::{BLINK, USAGE, ask};
 use std::process::Abort;
 use std::test::Fail;
-
-const BLINK: &str =
-    "input tick(1) period 10\noutput led from p.a.o\nprocess p {\n  port a from tick (v) out o(1) {\n    send o (v + 1)\n  }\n}\n";
+use yartos::Status;
 
 const FAST: &str =
     "input tick(1) period 4\noutput led from p.a.o\nprocess p {\n  port a from tick (v) out o(1) {\n    send o (v + 1)\n  }\n}\n";
@@ -22,9 +20,6 @@ struct Case {
 }
 
 const NEVER: u64 = 99;
-
-const USAGE: &str =
-    "usage: yartos form G, tasks G, check G, run G T, stop G T N, set S, play S P, replay S, demo N\n";
 
 impl Case {
     /// `run g t`, where nothing fails.

@@ -1,8 +1,9 @@
-use crate::Status;
-use crate::top::asked::{ask, status_of};
+//! Sets of tasks, and whether they fit.
+use crate::asked::{ask, status_of};
 use std::alloc::{AllocError, Global};
 use std::process::Abort;
 use std::test::Fail;
+use yartos::Status;
 use yt_base::Line;
 
 /// Sets whose text is in order, and what is said of them.

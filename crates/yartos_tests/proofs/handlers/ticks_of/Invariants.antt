@@ -1,6 +1,6 @@
 use Rattle.std.proofs.Common.{◌≡◌, length}
 use Rattle.yt_code.specs.Ready.{IsReady}
-use Rattle.yartos.proofs.top.handlers.ticks_of.Given as goal
+use Rattle.yartos_tests.proofs.handlers.ticks_of.Given as goal
 
 abbrev pub invariant-loop-n : goal.invariant-loop-n
 invariant-loop-n g l = record {

@@ -4,7 +4,7 @@ use Rattle.yt_graph.specs.AstPicture.{ast_tree}
 use Rattle.yt_names.specs.Laws.{IsFineHead, AreFineHeads}
 use Rattle.yt_cost.specs.CodeFit.{HasNoCalls}
 use Rattle.yartos.proofs.ResolvedCalls.{resolved_lacks_calls}
-use Rattle.yartos.proofs.top.handlers.graph_of.Goals as goal
+use Rattle.yartos_tests.proofs.handlers.graph_of.Goals as goal
 
 pub returns-in-Ok-resolve : goal.returns-in-Ok-resolve
 returns-in-Ok-resolve c =

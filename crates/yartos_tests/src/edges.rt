@@ -1,8 +1,9 @@
-use crate::Status;
-use crate::top::asked::{ask, status_of};
+//! Texts of graphs at the edges of tokens, grammar, names and limits.
+use crate::asked::{ask, status_of};
 use std::alloc::{AllocError, Global};
 use std::process::Abort;
 use std::test::Fail;
+use yartos::Status;
 use yt_base::Line;
 
 /// The status and the printed text of a command on a graph.

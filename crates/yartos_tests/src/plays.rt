@@ -1,7 +1,8 @@
-use crate::Status;
-use crate::top::asked::ask;
+//! Plays of plans for sets of tasks.
+use crate::asked::ask;
 use std::process::Abort;
 use std::test::Fail;
+use yartos::Status;
 
 /// A task alone.
 const ONE: &str = "task A 5 10\n";

@@ -1,0 +1,2 @@
+mod PrintedRuns
+pub mod SentLemmas

@@ -1,0 +1,148 @@
+//! Words, against all forms.
+use crate::asked::{BLINK, USAGE, ask_on};
+use std::alloc::{AllocError, Global};
+use std::process::Abort;
+use std::test::Fail;
+use yartos::Status;
+use yt_io::MemSink;
+
+/// What words ask for: nothing, since they are no listed form; a command that isn't built yet; or one that judges this many files,
+/// which is answered so where the shelf holds them.
+#[derive(Clone, Copy)]
+enum Asked {
+    Misuse,
+    Later,
+    Judges(usize, Status, &'static str),
+}
+
+const FORM: Asked = Asked::Judges(1, Status::Done, BLINK);
+
+const TASKS: Asked = Asked::Judges(1, Status::Done, "task p.a 5 10\n");
+
+const CHECK: Asked = Asked::Judges(1, Status::Done, "accepted 1 5/10\n");
+
+const RUN: Asked = Asked::Judges(2, Status::Done, "end 0\n");
+
+const STOP: Asked = Asked::Judges(2, Status::NotYet, "notyet\n");
+
+const SET: Asked = Asked::Judges(1, Status::Done, "accepted 2 5/10\n");
+
+const PLAY: Asked = Asked::Judges(2, Status::Done, "run 0 2 A 1\nend 2\n");
+
+/// The files by their names and texts, each with the place in which commands name it: graphs and a set, then a trace and a plan.
+const FILES: [(usize, &str, &str); 5] = [
+    (1, "g", BLINK),
+    (1, "", BLINK),
+    (1, "s", "task A 2 5\ntask B 1 10\n"),
+    (2, "t", ""),
+    (2, "p", "0 A 2\n"),
+];
+
+/// Lines of words with one space between them: a word may be empty.
+const LINES: [(&str, Asked); 45] = [
+    ("form g", FORM),
+    ("tasks g", TASKS),
+    ("check g", CHECK),
+    ("run g t", RUN),
+    ("stop g t 7", STOP),
+    ("stop g t 12345678", STOP),
+    ("stop g t 00000000", STOP),
+    ("set s", SET),
+    ("play s p", PLAY),
+    ("replay s", Asked::Later),
+    ("demo 1", Asked::Later),
+    ("demo 16", Asked::Later),
+    ("demo 00000001", Asked::Later),
+    ("form ", FORM),
+    ("run  t", RUN),
+    ("", Asked::Misuse),
+    ("form", Asked::Misuse),
+    ("form g t", Asked::Misuse),
+    ("form -g", Asked::Misuse),
+    ("form -", Asked::Misuse),
+    ("Form g", Asked::Misuse),
+    ("forms g", Asked::Misuse),
+    ("for g", Asked::Misuse),
+    ("tasks -g", Asked::Misuse),
+    ("check g t", Asked::Misuse),
+    ("check --", Asked::Misuse),
+    ("run g", Asked::Misuse),
+    ("run g t u", Asked::Misuse),
+    ("run -g t", Asked::Misuse),
+    ("run g -t", Asked::Misuse),
+    ("stop g t", Asked::Misuse),
+    ("stop g t x", Asked::Misuse),
+    ("stop g t 1x", Asked::Misuse),
+    ("stop g t -1", Asked::Misuse),
+    ("stop g t ", Asked::Misuse),
+    ("stop g t 123456789", Asked::Misuse),
+    ("stop -g t 1", Asked::Misuse),
+    ("stop g -t 1", Asked::Misuse),
+    ("set -s", Asked::Misuse),
+    ("play s -p", Asked::Misuse),
+    ("replay s p", Asked::Misuse),
+    ("demo 0", Asked::Misuse),
+    ("demo 17", Asked::Misuse),
+    ("demo 000000001", Asked::Misuse),
+    ("--help", Asked::Misuse),
+];
+
+/// The files that are named in the first places, this many of them.
+fn first_files(alloc: Global, places: usize) -> Result<Vec<(String, Vec<u8>)>, AllocError> {
+    let mut files = Vec::new(alloc);
+    for (place, name, text) in &FILES {
+        if *place <= places {
+            files.push((
+                String::from_str(alloc, name)?,
+                Vec::from_slice(alloc, text.as_bytes())?,
+            ))?;
+        }
+    }
+    Ok(files)
+}
+
+/// The answer where the shelf holds the files that are named in the first places, this many of them.
+fn answer_of(asked: Asked, places: usize) -> (Status, &'static str) {
+    match asked {
+        Asked::Misuse => (Status::Usage, USAGE),
+        Asked::Later => (Status::NotYet, "notyet\n"),
+        Asked::Judges(files, status, text) => {
+            if places < files {
+                (Status::ReadFault, "")
+            } else {
+                (status, text)
+            }
+        }
+    }
+}
+
+/// Asks a line's words of an empty shelf, of one with the files that are named first, and of one with all files.
+fn check(
+    rt: &(impl Abort + AllocGlobal),
+    line: &str,
+    words: &[&str],
+    asked: Asked,
+) -> Result<(), Fail> {
+    let alloc = rt.alloc();
+    for places in 0..3 {
+        let files = first_files(alloc, places)?;
+        let mut sink = MemSink::with_room(alloc, 1000, Vec::new(alloc))?;
+        let ended = ask_on(alloc, words, files, Vec::new(alloc), &mut sink)?;
+        let (status, text) = answer_of(asked, places);
+        assert_eq!(rt; sink.bytes(), text.as_bytes(), "at {line}");
+        assert_eq!(rt; ended, status, "at {line}");
+    }
+    Ok(())
+}
+
+#[test]
+fn words_are_tested_against_all_forms(rt: HostRuntime) -> Result<(), Fail> {
+    for (line, asked) in &LINES {
+        let mut words = Vec::new(rt.alloc());
+        for word in line.split(' ') {
+            words.push(word)?;
+        }
+        check(&rt, line, &words, *asked)?;
+    }
+    check(&rt, "no words", &[], Asked::Misuse)
+}
