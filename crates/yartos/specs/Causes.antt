@@ -1,75 +1,65 @@
--- Why a status comes: what the words and the bytes of the files that they name are, where the shelf tells what it holds.
-use Rattle.std.specs.Prelude.{◌≡◌, ℕ, true, false, List, [], ◌∷◌, Option, Some}
-use Rattle.yt_graph.specs.AstPicture.{ItemTree}
-use Rattle.yt_graph.specs.Picture.{GraphTree}
-use Rattle.yt_rates.specs.Tables.{tasks_of}
-use Rattle.yartos.specs.declared.words.Command.{Command}
-use Rattle.yartos.specs.declared.words.Command.TheVariants.{Form, Graph as OfGraph, Set, Play}
-use Rattle.yartos.specs.declared.words.Question.{Question}
-use Rattle.yartos.specs.declared.words.Question.TheVariants.{Tasks, Check, Run, Stop}
-use Rattle.yartos.specs.declared.status.Status.{Status}
-use Rattle.yartos.specs.declared.status.Status.TheVariants.{Done, Usage, Graph, Long, NotYet}
-use Rattle.yartos.specs.Calls.{has_call}
-use Rattle.yartos.specs.GraphText.{IsTreeOf, IsRefusedText}
-use Rattle.yartos.specs.LoadAnswer.{IsCauseInLoad}
-use Rattle.yartos.specs.PlayAnswer.{IsCauseInPlay}
-use Rattle.yartos.specs.Reads.{AreRead, IsFirstLong}
-use Rattle.yartos.specs.RunCauses.{IsRunCause}
-use Rattle.yartos.specs.SetAnswer.{IsCauseInSet}
-use Rattle.yartos.specs.Stages.{Stage, misnamed, costly, misrated, rated, stage_of}
-use Rattle.yartos.specs.Words.{Request, misuse, later, judges, request_of}
+-- Why a verdict comes to words and to the files that they name, and which text tells it.
+use Rattle.std.specs.Prelude.{◌≡◌, ℕ, List, Option, codes}
+use Rattle.yt_answer.specs.declared.verdict.Verdict.{Verdict}
+use Rattle.yt_answer.specs.declared.verdict.Verdict.TheVariants.{NotYet, Usage}
+use Rattle.yt_answer.specs.Due.{not_yet_line}
+use Rattle.yt_cmd_check.specs.Check.{CheckCause, IsCheckText, check_verdict}
+use Rattle.yt_cmd_check.specs.Tasks.{IsTasksText, TasksCause, tasks_verdict}
+use Rattle.yt_cmd_form.specs.Form.{FormCause, IsFormText, form_verdict}
+use Rattle.yt_cmd_play.specs.Causes.{IsPlayText, PlayCause, play_verdict}
+use Rattle.yt_cmd_run.specs.Causes.{IsRunText, IsStopText, RunCause, StopCause, run_verdict, stop_verdict}
+use Rattle.yt_cmd_set.specs.Judged.{IsJudgedText, JudgedSetCause, judged_verdict}
+use Rattle.yartos.specs.FileCauses.{FileCause, IsFileText, file_verdict}
+use Rattle.yartos.specs.Words.{Command, Request, check, form, judges, later, misuse, play, run, set, stop, tasks}
 
--- why a status is due to a run of a graph that fits on what the one other file holds
-abbrev pub IsCauseOfRun : List ItemTree → GraphTree → List (List ℕ) → Status → Type 0
-IsCauseOfRun items graph [] status = ⊥
-IsCauseOfRun items graph (trace ∷ []) status = IsRunCause items graph trace status
-IsCauseOfRun items graph (trace ∷ more ∷ others) status = ⊥
+-- why a verdict comes to a command, by what its files hold, which are read in order
+abbrev pub CommandCause : Option (List ℕ → Option (List ℕ)) → Command → Type 0
+CommandCause told (form graph) = FileCause told graph (λ g. FormCause g)
+CommandCause told (tasks graph) = FileCause told graph (λ g. TasksCause g)
+CommandCause told (check graph) = FileCause told graph (λ g. CheckCause g)
+CommandCause told (run graph trace) = FileCause told graph (λ g. FileCause told trace (λ t. RunCause g t))
+CommandCause told (stop graph trace tick) = FileCause told graph (λ g. FileCause told trace (λ t. StopCause g))
+CommandCause told (set named) = FileCause told named (λ s. JudgedSetCause s)
+CommandCause told (play named plan) = FileCause told named (λ s. FileCause told plan (λ p. PlayCause s p))
 
--- why a status is due to a question about a graph whose names, costs and rates are in order, and what the other files hold
-abbrev pub IsCauseInRated : Question → List ItemTree → GraphTree → List (List ℕ) → Status → Type 0
-IsCauseInRated Tasks items graph others status = status ≡ Done
-IsCauseInRated Check items graph others status = IsCauseInLoad (tasks_of graph) (λ s. s ≡ Done) status
-IsCauseInRated Run items graph others status = IsCauseInLoad (tasks_of graph) (IsCauseOfRun items graph others) status
-IsCauseInRated Stop items graph others status = IsCauseInLoad (tasks_of graph) (λ s. s ≡ NotYet) status
+-- the verdict
+abbrev pub command_verdict : (told : Option (List ℕ → Option (List ℕ))) (command : Command) → CommandCause told command → Verdict
+command_verdict told (form graph) cause = file_verdict (λ g why. form_verdict why) cause
+command_verdict told (tasks graph) cause = file_verdict (λ g why. tasks_verdict why) cause
+command_verdict told (check graph) cause = file_verdict (λ g why. check_verdict why) cause
+command_verdict told (run graph trace) cause = file_verdict (λ g. file_verdict (λ t why. run_verdict why)) cause
+command_verdict told (stop graph trace tick) cause = file_verdict (λ g. file_verdict (λ t why. stop_verdict why)) cause
+command_verdict told (set named) cause = file_verdict (λ s why. judged_verdict why) cause
+command_verdict told (play named plan) cause = file_verdict (λ s. file_verdict (λ p why. play_verdict why)) cause
 
--- why a status is due to a question about a graph, by its tree and by where it stands
-abbrev pub IsCauseAt : Question → List ItemTree → Stage → List (List ℕ) → Status → Type 0
-IsCauseAt question items (misnamed fault) others status = status ≡ Graph
-IsCauseAt question items (costly graph fault) others status = status ≡ Graph
-IsCauseAt question items (misrated graph fault) others status = status ≡ Graph
-IsCauseAt question items (rated graph) others status = IsCauseInRated question items graph others status
+-- its text
+abbrev pub IsCommandText : (told : Option (List ℕ → Option (List ℕ))) (command : Command) → CommandCause told command → List ℕ → Type 0
+IsCommandText told (form graph) cause text = IsFileText 1 (λ g why. IsFormText why) cause text
+IsCommandText told (tasks graph) cause text = IsFileText 1 (λ g why. IsTasksText why) cause text
+IsCommandText told (check graph) cause text = IsFileText 1 (λ g why. IsCheckText why) cause text
+IsCommandText told (run graph trace) cause text = IsFileText 1 (λ g. IsFileText 2 (λ t why. IsRunText why)) cause text
+IsCommandText told (stop graph trace tick) cause text = IsFileText 1 (λ g. IsFileText 2 (λ t why. IsStopText why)) cause text
+IsCommandText told (set named) cause text = IsFileText 1 (λ s why. IsJudgedText why) cause text
+IsCommandText told (play named plan) cause text = IsFileText 1 (λ s. IsFileText 2 (λ p why. IsPlayText why)) cause text
 
--- why a status is due to a graph's text, by why it is due to its tree
-pub data IsCauseInGraph (graph : List ℕ) (judged : List ItemTree → Status → Type 0) (status : Status) : Type 0 where
-  refused : (text : List ℕ) → status ≡ Graph → IsRefusedText graph text → IsCauseInGraph graph judged status
-  calls_operator : (items : List ItemTree) → IsTreeOf graph items → has_call items ≡ true → status ≡ NotYet → IsCauseInGraph graph judged status
-  spelled : (items : List ItemTree) → IsTreeOf graph items → has_call items ≡ false → judged items status → IsCauseInGraph graph judged status
+-- why a verdict comes to what words ask for; words of no listed form, and of a form that isn't built yet, are a cause by themselves
+abbrev pub RequestCause : Option (List ℕ → Option (List ℕ)) → Request → Type 0
+RequestCause told misuse = Unit {0}
+RequestCause told later = Unit {0}
+RequestCause told (judges command) = CommandCause told command
 
--- why a status is due to a play of what the one other file holds, for a set
-abbrev pub IsCauseOfPlay : List ℕ → List (List ℕ) → Status → Type 0
-IsCauseOfPlay set [] status = ⊥
-IsCauseOfPlay set (plan ∷ []) status = IsCauseInPlay set plan status
-IsCauseOfPlay set (plan ∷ more ∷ others) status = ⊥
+-- the verdict
+abbrev pub request_verdict : (told : Option (List ℕ → Option (List ℕ))) (request : Request) → RequestCause told request → Verdict
+request_verdict told misuse cause = Usage
+request_verdict told later cause = NotYet
+request_verdict told (judges command) cause = command_verdict told command cause
 
--- why a status is due to a command and what its files hold, the graph or the set first
-abbrev pub IsCauseOf : Command → List (List ℕ) → Status → Type 0
-IsCauseOf command [] status = ⊥
-IsCauseOf Form (graph ∷ others) status = IsCauseInGraph graph (λ items s. s ≡ Done) status
-IsCauseOf (OfGraph question) (graph ∷ others) status = IsCauseInGraph graph (λ items. IsCauseAt question items (stage_of items) others) status
-IsCauseOf Set (set ∷ others) status = IsCauseInSet set status
-IsCauseOf Play (set ∷ others) status = IsCauseOfPlay set others status
+-- the line that tells the listed forms
+abbrev pub usage_line : List ℕ
+usage_line = codes "usage: yartos form G, tasks G, check G, run G T, stop G T N, set S, play S P, replay S, demo N\n"
 
--- why a status is due to a command and the files that it names
-pub data IsCauseInFiles (held : List ℕ → Option (List ℕ)) (command : Command) (names : List (List ℕ)) (status : Status) : Type 0 where
-  too_long : (place : ℕ) → IsFirstLong (Some held) names place → status ≡ Long → IsCauseInFiles held command names status
-  read : (files : List (List ℕ)) → AreRead (Some held) names files → IsCauseOf command files status → IsCauseInFiles held command names status
-
--- why a status is due to what words ask for
-abbrev pub IsCalledFor : (List ℕ → Option (List ℕ)) → Request → Status → Type 0
-IsCalledFor held misuse status = status ≡ Usage
-IsCalledFor held later status = status ≡ NotYet
-IsCalledFor held (judges command names) status = IsCauseInFiles held command names status
-
--- why a status is due to words, by what the shelf holds
-abbrev pub CallsFor : (List ℕ → Option (List ℕ)) → List (List ℕ) → Status → Type 0
-CallsFor held words status = IsCalledFor held (request_of words) status
+-- its text
+abbrev pub IsRequestText : (told : Option (List ℕ → Option (List ℕ))) (request : Request) → RequestCause told request → List ℕ → Type 0
+IsRequestText told misuse cause text = text ≡ usage_line
+IsRequestText told later cause text = text ≡ not_yet_line
+IsRequestText told (judges command) cause text = IsCommandText told command cause text

@@ -1,17 +1,14 @@
 -- The words of a command, and what they ask for.
-use Rattle.std.specs.Prelude.{ℕ, ◌+◌, List, [], ◌∷◌, length, map, Bool, true, false, not, ◌&&◌, ◌==◌, nat_lt, nat_le, String, string_bytes, if◌then◌else◌, bytes_eq, codes}
-use Rattle.std.specs.List.{list_all}
+use Rattle.std.specs.Prelude.{ℕ, List, [], ◌∷◌, length, map, Bool, true, false, not, ◌&&◌, ◌==◌, nat_le, Option, None, Some, String, string_bytes, if◌then◌else◌, bytes_eq, codes}
 use Rattle.std.specs.declared.alloc.Global.{Global}
 use Rattle.yt_base.specs.declared.numbers.Decimal.{Decimal}
 use Rattle.yt_base.specs.declared.numbers.Decimal.TheVariants.{Other, Over, Value}
 use Rattle.yt_base.specs.Digits.{digits_of_text}
-use Rattle.yt_graph.specs.Names.{is_digit}
-use Rattle.yartos.specs.declared.words.Command.{Command}
-use Rattle.yartos.specs.declared.words.Command.TheVariants.{Form, Graph, Set, Play}
-use Rattle.yartos.specs.declared.words.Question.{Question}
-use Rattle.yartos.specs.declared.words.Question.TheVariants.{Tasks, Check, Run, Stop}
+use Rattle.yartos.specs.declared.words.Command as declared_command
+use Rattle.yartos.specs.declared.words.Command.TheVariants.{Form, Tasks, Check, Run, Stop, Set, Play}
 use Rattle.yartos.specs.declared.words.Request as declared
 use Rattle.yartos.specs.declared.words.Request.TheVariants.{Misuse, Later, Judges}
+use Rattle.yartos.specs.declared.words.TheConstants.{MOST_DIGITS}
 
 -- the bytes of each word
 abbrev pub texts : List (String Global) → List (List ℕ)
@@ -22,66 +19,93 @@ abbrev pub names_file : List ℕ → Bool
 names_file [] = true
 names_file (c ∷ cs) = not (c == 45)
 
--- a count is one to eight decimal digits
-abbrev pub is_count : List ℕ → Bool
-is_count word = nat_lt 0 (length word) && (nat_le (length word) 8 && list_all is_digit word)
+-- the value of digits
+abbrev pub value_in : Decimal → Option ℕ
+value_in (Value n) = Some n
+value_in Over = None
+value_in Other = None
 
-abbrev pub is_from_1_to_16 : Decimal → Bool
-is_from_1_to_16 (Value n) = nat_le 1 n && nat_le n 16
-is_from_1_to_16 Over = false
-is_from_1_to_16 Other = false
+-- what a word counts: one to eight decimal digits
+abbrev pub count_of : List ℕ → Option ℕ
+count_of word = if nat_le (length word) MOST_DIGITS then value_in (digits_of_text word) else None
+
+-- a number from 1 to 16
+abbrev pub is_from_1_to_16 : Option ℕ → Bool
+is_from_1_to_16 (Some n) = nat_le 1 n && nat_le n 16
+is_from_1_to_16 None = false
 
 -- a count from 1 to 16
 abbrev pub is_demo_count : List ℕ → Bool
-is_demo_count word = is_count word && is_from_1_to_16 (digits_of_text word)
+is_demo_count word = is_from_1_to_16 (count_of word)
 
--- what words ask for: they are no listed form, they're of a form that isn't built yet, or a command judges these files
+-- a command that judges the files of these names
+pub data Command : Type 0 where
+  form : (graph : List ℕ) → Command
+  tasks : (graph : List ℕ) → Command
+  check : (graph : List ℕ) → Command
+  run : (graph trace : List ℕ) → Command
+  stop : (graph trace : List ℕ) (tick : ℕ) → Command
+  set : (named : List ℕ) → Command
+  play : (named plan : List ℕ) → Command
+
+-- what words ask for: they are no listed form, they're of a form that isn't built yet, or a command judges files
 pub data Request : Type 0 where
   misuse : Request
   later : Request
-  judges : Command → List (List ℕ) → Request
+  judges : Command → Request
+
+-- a stop of a run at the tick that a word counts, where it counts one
+abbrev pub stops : List ℕ → List ℕ → Option ℕ → Request
+stops graph trace (Some tick) = judges (stop graph trace tick)
+stops graph trace None = misuse
 
 -- what words ask for: one word behind the command, two or three, as the listed forms have them
 abbrev pub request_of : List (List ℕ) → Request
 request_of (command ∷ word ∷ []) =
-    if bytes_eq command (codes "form") && names_file word then judges Form (word ∷ [])
-    else (if bytes_eq command (codes "tasks") && names_file word then judges (Graph Tasks) (word ∷ [])
-    else (if bytes_eq command (codes "check") && names_file word then judges (Graph Check) (word ∷ [])
-    else (if bytes_eq command (codes "set") && names_file word then judges Set (word ∷ [])
+    if bytes_eq command (codes "form") && names_file word then judges (form word)
+    else (if bytes_eq command (codes "tasks") && names_file word then judges (tasks word)
+    else (if bytes_eq command (codes "check") && names_file word then judges (check word)
+    else (if bytes_eq command (codes "set") && names_file word then judges (set word)
     else (if bytes_eq command (codes "replay") && names_file word then later
     else (if bytes_eq command (codes "demo") && is_demo_count word then later
     else misuse)))))
 request_of (command ∷ first ∷ second ∷ []) =
-    if bytes_eq command (codes "run") && (names_file first && names_file second) then judges (Graph Run) (first ∷ second ∷ [])
-    else (if bytes_eq command (codes "play") && (names_file first && names_file second) then judges Play (first ∷ second ∷ [])
+    if bytes_eq command (codes "run") && (names_file first && names_file second) then judges (run first second)
+    else (if bytes_eq command (codes "play") && (names_file first && names_file second) then judges (play first second)
     else misuse)
 request_of (command ∷ graph ∷ trace ∷ tick ∷ []) =
-    if bytes_eq command (codes "stop") && (names_file graph && (names_file trace && is_count tick)) then judges (Graph Stop) (graph ∷ trace ∷ [])
+    if bytes_eq command (codes "stop") && (names_file graph && names_file trace) then stops graph trace (count_of tick)
     else misuse
 request_of words = misuse
+
+-- the names of a command's files, in the order in which they are read
+abbrev pub files_of : Command → List (List ℕ)
+files_of (form graph) = graph ∷ []
+files_of (tasks graph) = graph ∷ []
+files_of (check graph) = graph ∷ []
+files_of (run graph trace) = graph ∷ trace ∷ []
+files_of (stop graph trace tick) = graph ∷ trace ∷ []
+files_of (set named) = named ∷ []
+files_of (play named plan) = named ∷ plan ∷ []
 
 -- a request that no file is read for
 abbrev pub NeedsNoFile : Request → Type 0
 NeedsNoFile misuse = Unit {0}
 NeedsNoFile later = Unit {0}
-NeedsNoFile (judges command names) = ⊥
+NeedsNoFile (judges command) = ⊥
 
--- how many files a question asks for besides the graph's
-abbrev pub other_files : Question → ℕ
-other_files Tasks = 0
-other_files Check = 0
-other_files Run = 1
-other_files Stop = 1
+-- the command that the code finds, with the bytes of the words
+abbrev pub command_found : declared_command.Command → Command
+command_found (Form graph) = form graph.now
+command_found (Tasks graph) = tasks graph.now
+command_found (Check graph) = check graph.now
+command_found (Run graph trace) = run graph.now trace.now
+command_found (Stop graph trace tick) = stop graph.now trace.now tick
+command_found (Set named) = set named.now
+command_found (Play named plan) = play named.now plan.now
 
--- how many files a command judges
-abbrev pub file_count : Command → ℕ
-file_count Form = 1
-file_count (Graph question) = 1 + other_files question
-file_count Set = 1
-file_count Play = 2
-
--- the request that the code finds, with the bytes of the words
+-- the request that the code finds
 abbrev pub request_found : declared.Request → Request
 request_found Misuse = misuse
 request_found Later = later
-request_found (Judges command files) = judges command (texts files.now)
+request_found (Judges command) = judges (command_found command)

@@ -3,20 +3,24 @@ ghost use Rattle.std.specs.Prelude.{◌≡◌, ◌⊎◌, ◌≤◌, ℕ, List, 
 ghost use Rattle.yt_io.specs.Faults.{IsQuiet, Rose};
 ghost use Rattle.yt_io.specs.Sink.{AddsFront, add};
 ghost use Rattle.yartos.specs.Words.{NeedsNoFile, later, misuse, request_of, texts};
-ghost use Rattle.yartos.specs.Answer.{CannotReadNamed, IfVerdict, IsDue, OrNoMemory, OrWriteFault};
-ghost use Rattle.yartos.specs.Causes.{CallsFor};
+ghost use Rattle.yartos.specs.Answer.{CallsFor, CannotReadNamed, IfVerdict, IsAnswer, OrNoMemory, OrWriteFault};
+ghost use Rattle.yartos.specs.FileCauses.{long_line};
 
-use crate::answer::NOT_YET;
-use crate::answer_files::{Unanswered, answer_files};
-use crate::status::Status;
+use crate::command::answer_command;
+use crate::files::Unanswered;
 use crate::words::{Request, request_of};
 use crate::write::tell;
 use std::alloc::Global;
+use yt_answer::{Status, Verdict};
+use yt_base::Line;
 use yt_io::{Shelf, Sink};
 
 /// What is written where the words are no listed form.
 const USAGE: &[u8] =
     b"usage: yartos form G, tasks G, check G, run G T, stop G T N, set S, play S P, replay S, demo N\n";
+
+/// What is written where the words are of a form that isn't built yet.
+const NOT_YET: &[u8] = b"notyet\n";
 
 /// Answers the words, with what the shelf holds, on the sink: each line is one write. All memory is taken before the first
 /// write, and after a failed write nothing more is written.
@@ -37,14 +41,14 @@ pub fn yartos<S: Shelf, K: Sink>(
     ensures write_fault { result ≡ Status.WriteFault → Rose (K.faults out.old) (K.faults out.new) }
 
     // Whichever counts rose, a verdict is the one that is due, and its whole text was written and nothing else.
-    ensures verdict { IfVerdict result ((text : List ℕ) × IsDue (S.held shelf.old) (texts words.now.items) result text
+    ensures verdict { IfVerdict result ((text : List ℕ) × IsAnswer (S.held shelf.old) (texts words.now.items) result text
         × (K.written out.new ≡ add (K.written out.old) text)) }
 
-    // After a failed write stands a front of the text that was due, and else nothing was written.
-    ensures front { result ≡ Status.WriteFault → (due : Status) × (text : List ℕ) × IsDue (S.held shelf.old) (texts words.now.items) due text
+    // After a failed write stands a front of the text that was due, and else the sink is as it was.
+    ensures front { result ≡ Status.WriteFault → (due : Status) × (text : List ℕ) × IsAnswer (S.held shelf.old) (texts words.now.items) due text
         × AddsFront (K.written out.old) (K.written out.new) text }
-    ensures nothing { result ≡ Status.ReadFault → K.written out.new ≡ K.written out.old }
-    ensures no_memory { result ≡ Status.NoMemory → K.written out.new ≡ K.written out.old }
+    ensures nothing { result ≡ Status.ReadFault → out.new ≡ out.old }
+    ensures no_memory { result ≡ Status.NoMemory → out.new ≡ out.old }
 
     // Words of no listed form, or of one that isn't built yet, are answered even where there is no memory, and no file is read.
     ensures no_form { request_of (texts words.now.items) ≡ misuse → OrWriteFault result Status.Usage }
@@ -56,12 +60,26 @@ pub fn yartos<S: Shelf, K: Sink>(
         IsQuiet (S.faults shelf.old) (S.faults shelf.new) → IsQuiet (K.faults out.old) (K.faults out.new) → OrNoMemory result due }
 {
     match request_of(words) {
-        Request::Misuse => tell(out, Status::Usage, USAGE),
-        Request::Later => tell(out, Status::NotYet, NOT_YET),
-        Request::Judges(command, names) => match answer_files(alloc, command, names, shelf) {
-            Ok(answer) => tell(out, answer.status, answer.text.as_slice()),
+        Request::Misuse => tell(out, Verdict::Usage, USAGE),
+        Request::Later => tell(out, Verdict::NotYet, NOT_YET),
+        Request::Judges(command) => match answer_command(alloc, command, shelf) {
+            Ok(answer) => tell(out, answer.verdict, answer.text.as_slice()),
+            Err(Unanswered::TooLong(number)) => {
+                tell(out, Verdict::Long, long_line(number).bytes())
+            }
             Err(Unanswered::NotRead) => Status::ReadFault,
             Err(Unanswered::NoMemory) => Status::NoMemory,
         },
     }
+}
+
+/// The line of a file that is too long, by its number among the files, from 1.
+fn long_line(number: u64) -> Line
+    ensures { result ≡ long_line number }
+{
+    let mut line = Line::new();
+    line.put(b"long file ");
+    line.put_u64(number);
+    line.put(b"\n");
+    line
 }

@@ -1,10 +1,11 @@
 //! The writing of lines.
 ghost use Rattle.std.specs.Prelude.{◌≡◌, ◌≤◌, OnOk, OnErr};
+ghost use Rattle.yt_answer.specs.Code.{status_of};
 ghost use Rattle.yt_io.specs.Faults.{Rose};
 ghost use Rattle.yt_io.specs.Sink.{add, AddsFront};
-ghost use Rattle.yartos.specs.Answer.{IfVerdict, IsVerdict, OrWriteFault};
+ghost use Rattle.yartos.specs.Answer.{IfVerdict, OrWriteFault};
 
-use crate::status::Status;
+use yt_answer::{Status, Verdict};
 use yt_base::next_line;
 use yt_io::{Sink, SinkFault};
 
@@ -25,19 +26,18 @@ pub(crate) fn write_lines<K: Sink>(out: &mut K, text: &[u8]) -> Result<(), SinkF
     Ok(())
 }
 
-/// Writes the text that goes with a status, one write a line. The status stands unless a write fails. Takes no memory.
+/// Writes the text that goes with a verdict, one write a line. The verdict's status stands unless a write fails. Takes no memory.
 ///
 /// `WriteFault` comes only where the sink's count of faults rose in this call.
-pub(crate) fn tell<K: Sink>(out: &mut K, status: Status, text: &[u8]) -> Status
-    requires verdict { IsVerdict status }
+pub(crate) fn tell<K: Sink>(out: &mut K, verdict: Verdict, text: &[u8]) -> Status
     ensures count { K.faults out.old ≤ K.faults out.new }
-    ensures told { OrWriteFault result status }
+    ensures told { OrWriteFault result (status_of verdict) }
     ensures whole { IfVerdict result (K.written out.new ≡ add (K.written out.old) text.now) }
     ensures failed { result ≡ Status.WriteFault → Rose (K.faults out.old) (K.faults out.new) }
     ensures front { result ≡ Status.WriteFault → AddsFront (K.written out.old) (K.written out.new) text.now }
 {
     match write_lines(out, text) {
-        Ok(()) => status,
+        Ok(()) => Status::from(verdict),
         Err(SinkFault::Failed) => Status::WriteFault,
     }
 }

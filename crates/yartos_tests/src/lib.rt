@@ -1,23 +1,28 @@
-//! Tests of the top call (`yartos`), and of handlers of texts, from their tokens to their last tick.
+//! Tests of the top call (`yartos`).
 //!
-//! This crate has nothing but tests, and no crate stands on it. It knows the public calls of the crates that it tests alone. Its
+//! This crate has nothing but tests, and no crate stands on it. It knows the top call and the shelf and sink in memory alone. Its
 //! tests show what no clause says: that a call ends well where memory suffices, and that its answer is the one worked out by hand.
+//! A test is a table of rows, which are data, and one call that goes over them: a row more costs next to nothing to prove.
 #![tactic(auto)]
 
 #[cfg(test)]
-mod answers;
+mod faults;
 #[cfg(test)]
-mod asked;
+mod graph_answers;
 #[cfg(test)]
-mod edges;
+mod graph_texts;
 #[cfg(test)]
-mod handlers;
+mod graphs;
+#[cfg(test)]
+mod limits;
+#[cfg(test)]
+mod long_files;
 #[cfg(test)]
 mod plays;
 #[cfg(test)]
-mod printed;
-#[cfg(test)]
 mod rates;
+#[cfg(test)]
+mod rows;
 #[cfg(test)]
 mod sets;
 #[cfg(test)]

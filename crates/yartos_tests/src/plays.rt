@@ -1,8 +1,9 @@
 //! Plays of plans for sets of tasks.
-use crate::asked::ask;
-use std::process::Abort;
+use crate::rows::{Row, judge};
 use std::test::Fail;
 use yartos::Status;
+
+const PLAY: &[&str] = &["play", "s", "p"];
 
 /// A task alone.
 const ONE: &str = "task A 5 10\n";
@@ -20,111 +21,114 @@ const BUSY: &str = "task A 5 10\ntask B 11 20\n";
 const BLOCKING: &str = "task A 1 4 r\ntask B 5 20 r\n";
 
 /// Sets, plans, and what is said of their plays.
-const PLAYS: [(&str, &str, Status, &str); 19] = [
-    (ONE, "", Status::Done, "end 0\n"),
+const PLAYS: &[Row] = &[
+    (PLAY, &[("s", ONE), ("p", "")], Status::Done, "end 0\n"),
     (
-        ONE,
-        "0 A 5\n10 A 5\n",
+        PLAY,
+        &[("s", ONE), ("p", "0 A 5\n10 A 5\n")],
         Status::Done,
         "run 0 5 A 1\nrun 10 15 A 2\nend 15\n",
     ),
     (
-        TWO,
-        "0 C 20\n1 A 2\n",
+        PLAY,
+        &[("s", TWO), ("p", "0 C 20\n1 A 2\n")],
         Status::Done,
         "run 0 1 C 1\nrun 1 3 A 1\nrun 3 22 C 1\nend 22\n",
     ),
     (
-        SHARED,
-        "0 B 4\n1 A 2\n1 K 1\n6 A 2\n",
+        PLAY,
+        &[("s", SHARED), ("p", "0 B 4\n1 A 2\n1 K 1\n6 A 2\n")],
         Status::Done,
         "run 0 1 B 1\nrun 1 3 A 1\nrun 3 6 B 1\nrun 6 7 K 1\nrun 7 9 A 2\nend 9\n",
     ),
     (
-        BUSY,
-        "0 A 5\n0 B 11\n10 A 5\n",
+        PLAY,
+        &[("s", BUSY), ("p", "0 A 5\n0 B 11\n10 A 5\n")],
         Status::Missed,
         "run 0 5 A 1\nrun 5 16 B 1\nrun 16 20 A 2\nmiss A 2 20\n",
     ),
     (
-        BUSY,
-        "0 A 5\n0 B 10\n10 A 5\n",
+        PLAY,
+        &[("s", BUSY), ("p", "0 A 5\n0 B 10\n10 A 5\n")],
         Status::Done,
         "run 0 5 A 1\nrun 5 15 B 1\nrun 15 20 A 2\nend 20\n",
     ),
     (
-        BLOCKING,
-        "0 B 5\n1 A 1\n",
+        PLAY,
+        &[("s", BLOCKING), ("p", "0 B 5\n1 A 1\n")],
         Status::Missed,
         "run 0 5 B 1\nmiss A 1 5\n",
     ),
     (
-        BLOCKING,
-        "0 A 1\n0 B 5\n4 A 1\n",
+        PLAY,
+        &[("s", BLOCKING), ("p", "0 A 1\n0 B 5\n4 A 1\n")],
         Status::Done,
         "run 0 1 A 1\nrun 1 6 B 1\nrun 6 7 A 2\nend 7\n",
     ),
-    (ONE, "0 A\n", Status::Trace, "plan 1 form\n"),
-    (ONE, "# none\n0 B 1\n", Status::Trace, "plan 2 unknown\n"),
-    (ONE, "0 A 6\n", Status::Trace, "plan 1 cost\n"),
-    (ONE, "0 A 0\n", Status::Trace, "plan 1 cost\n"),
     (
-        ONE,
-        "4000000 A 1\n",
+        PLAY,
+        &[("s", ONE), ("p", "0 A\n")],
+        Status::Trace,
+        "plan 1 form\n",
+    ),
+    (
+        PLAY,
+        &[("s", ONE), ("p", "# none\n0 B 1\n")],
+        Status::Trace,
+        "plan 2 unknown\n",
+    ),
+    (
+        PLAY,
+        &[("s", ONE), ("p", "0 A 6\n")],
+        Status::Trace,
+        "plan 1 cost\n",
+    ),
+    (
+        PLAY,
+        &[("s", ONE), ("p", "0 A 0\n")],
+        Status::Trace,
+        "plan 1 cost\n",
+    ),
+    (
+        PLAY,
+        &[("s", ONE), ("p", "4000000 A 1\n")],
         Status::Done,
         "run 4000000 4000001 A 1\nend 4000001\n",
     ),
-    (ONE, "4000001 A 1\n", Status::Trace, "plan 1 late\n"),
-    (TWO, "7 A 1\n6 C 1\n", Status::Trace, "plan 2 order\n"),
-    (ONE, "0 A 5\n9 A 5\n", Status::Trace, "plan 2 soon 10\n"),
-    ("", "0 A 1\n", Status::Trace, "plan 1 unknown\n"),
-    ("", "", Status::Done, "end 0\n"),
-    ("task A 0 10\n", "x", Status::Graph, "set 1 cost\n"),
+    (
+        PLAY,
+        &[("s", ONE), ("p", "4000001 A 1\n")],
+        Status::Trace,
+        "plan 1 late\n",
+    ),
+    (
+        PLAY,
+        &[("s", TWO), ("p", "7 A 1\n6 C 1\n")],
+        Status::Trace,
+        "plan 2 order\n",
+    ),
+    (
+        PLAY,
+        &[("s", ONE), ("p", "0 A 5\n9 A 5\n")],
+        Status::Trace,
+        "plan 2 soon 10\n",
+    ),
+    (
+        PLAY,
+        &[("s", ""), ("p", "0 A 1\n")],
+        Status::Trace,
+        "plan 1 unknown\n",
+    ),
+    (PLAY, &[("s", ""), ("p", "")], Status::Done, "end 0\n"),
+    (
+        PLAY,
+        &[("s", "task A 0 10\n"), ("p", "x")],
+        Status::Graph,
+        "set 1 cost\n",
+    ),
 ];
 
 #[test]
 fn plans_are_played(rt: HostRuntime) -> Result<(), Fail> {
-    let alloc = rt.alloc();
-    for (set, plan, wanted, text) in &PLAYS {
-        let (status, told) = ask(
-            alloc,
-            &["play", "g", "t"],
-            Vec::from_slice(alloc, set.as_bytes())?,
-            Vec::from_slice(alloc, plan.as_bytes())?,
-            Vec::new(alloc),
-            Vec::new(alloc),
-        )?;
-        assert_eq!(rt; told.as_slice(), text.as_bytes());
-        assert_eq!(rt; status, *wanted);
-    }
-    Ok(())
-}
-
-#[test]
-fn faults_of_a_play_are_told(rt: HostRuntime) -> Result<(), Fail> {
-    let alloc = rt.alloc();
-    for (plan, failing_read, failing_write, status, text) in [
-        ("u", 9, (9, 0), Status::ReadFault, ""),
-        ("t", 2, (9, 0), Status::ReadFault, ""),
-        ("t", 9, (2, 3), Status::WriteFault, "run 0 5 A 1\nrun"),
-        (
-            "t",
-            9,
-            (3, 0),
-            Status::WriteFault,
-            "run 0 5 A 1\nrun 10 15 A 2\n",
-        ),
-    ] {
-        let (ended, told) = ask(
-            alloc,
-            &["play", "g", plan],
-            Vec::from_slice(alloc, ONE.as_bytes())?,
-            Vec::from_slice(alloc, b"0 A 5\n10 A 5\n")?,
-            vec![in alloc; failing_read]?,
-            vec![in alloc; failing_write]?,
-        )?;
-        assert_eq!(rt; told.as_slice(), text.as_bytes());
-        assert_eq!(rt; ended, status);
-    }
-    Ok(())
+    judge(&rt, PLAYS)
 }

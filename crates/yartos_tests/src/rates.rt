@@ -1,7 +1,15 @@
 //! Rates of graphs, their tasks, and whether they fit.
-use crate::asked::{ask, status_of};
-use std::process::Abort;
+use crate::rows::{Row, judge};
 use std::test::Fail;
+use yartos::Status;
+
+const TASKS: &[&str] = &["tasks", "g"];
+
+const CHECK: &[&str] = &["check", "g"];
+
+const RUN: &[&str] = &["run", "g", "t"];
+
+const STOP: &[&str] = &["stop", "g", "t", "0"];
 
 /// Three ports of two processes, of which one has a variable.
 const COUNTER: &str =
@@ -51,84 +59,121 @@ const LONG_WAY: &str =
 const TOO_LONG_WAY: &str =
     "input i(0) period 1000000 process p { port a from i () out o(0) { send o () } port b from p.a.o () out o(0) { send o () } port c from p.b.o () out o(0) { send o () } port d from p.c.o () out o(0) { send o () } port e from p.d.o () out o(0) { send o () } }";
 
-/// Commands, graphs, and what is said of them.
-const ANSWERS: [(&str, &str, &str); 26] = [
+/// Commands on graphs.
+const ANSWERS: &[Row] = &[
     (
-        "tasks",
-        COUNTER,
+        TASKS,
+        &[("g", COUNTER)],
+        Status::Done,
         "task p.slow 5 100 p\ntask p.fast 7 20 p\ntask q.hog 5 30\n",
     ),
-    ("check", COUNTER, "accepted 3 170/300\n"),
     (
-        "tasks",
-        RELAY,
+        CHECK,
+        &[("g", COUNTER)],
+        Status::Done,
+        "accepted 3 170/300\n",
+    ),
+    (
+        TASKS,
+        &[("g", RELAY)],
+        Status::Done,
         "task p.a 3 100\ntask p.c 3 100\ntask q.b 5 100\n",
     ),
-    ("check", RELAY, "accepted 3 11/100\n"),
-    ("run", RELAY, "notyet\n"),
-    ("run", COUNTER, "notyet\n"),
-    ("stop", RELAY, "notyet\n"),
-    ("tasks", ARITHMETIC, "task p.a 41 100\n"),
-    ("check", ARITHMETIC, "accepted 1 41/100\n"),
+    (CHECK, &[("g", RELAY)], Status::Done, "accepted 3 11/100\n"),
+    (RUN, &[("g", RELAY), ("t", "")], Status::NotYet, "notyet\n"),
     (
-        "tasks",
-        CAMERA,
+        RUN,
+        &[("g", COUNTER), ("t", "")],
+        Status::NotYet,
+        "notyet\n",
+    ),
+    (STOP, &[("g", RELAY), ("t", "")], Status::NotYet, "notyet\n"),
+    (
+        TASKS,
+        &[("g", ARITHMETIC)],
+        Status::Done,
+        "task p.a 41 100\n",
+    ),
+    (
+        CHECK,
+        &[("g", ARITHMETIC)],
+        Status::Done,
+        "accepted 1 41/100\n",
+    ),
+    (
+        TASKS,
+        &[("g", CAMERA)],
+        Status::Done,
         "task show.frame 2012 33000 buf\ntask mix.sample 11 20000 buf\n",
     ),
-    ("check", CAMERA, "accepted 2 40603/660000\n"),
-    ("tasks", TRIPLE, "task p.a 7 10\ntask p.b 1 6\n"),
-    ("check", TRIPLE, "accepted 2 26/30\n"),
-    ("check", CROWDED, "graph rate p.a.o zero\n"),
-    ("run", CROWDED, "graph rate p.a.o zero\n"),
-    ("check", RARE, "graph rate q.b over 1001000\n"),
-    ("tasks", BUSY, "task p.a 5 10\ntask p.b 3 4\n"),
-    ("check", BUSY, BUSY_TEXT),
-    ("run", BUSY, BUSY_TEXT),
-    ("stop", BUSY, BUSY_TEXT),
-    ("check", WIDE, "graph hyperperiod p.f\n"),
-    ("run", WIDE, "graph hyperperiod p.f\n"),
-    ("check", LONG_WAY, "accepted 5 9/1000000\n"),
-    ("tasks", TOO_LONG_WAY, "graph rate p.e span\n"),
-    ("tasks", "", ""),
-    ("check", "", "accepted 0 0/1\n"),
+    (
+        CHECK,
+        &[("g", CAMERA)],
+        Status::Done,
+        "accepted 2 40603/660000\n",
+    ),
+    (
+        TASKS,
+        &[("g", TRIPLE)],
+        Status::Done,
+        "task p.a 7 10\ntask p.b 1 6\n",
+    ),
+    (CHECK, &[("g", TRIPLE)], Status::Done, "accepted 2 26/30\n"),
+    (
+        CHECK,
+        &[("g", CROWDED)],
+        Status::Graph,
+        "graph rate p.a.o zero\n",
+    ),
+    (
+        RUN,
+        &[("g", CROWDED), ("t", "")],
+        Status::Graph,
+        "graph rate p.a.o zero\n",
+    ),
+    (
+        CHECK,
+        &[("g", RARE)],
+        Status::Graph,
+        "graph rate q.b over 1001000\n",
+    ),
+    (
+        TASKS,
+        &[("g", BUSY)],
+        Status::Done,
+        "task p.a 5 10\ntask p.b 3 4\n",
+    ),
+    (CHECK, &[("g", BUSY)], Status::Overload, BUSY_TEXT),
+    (RUN, &[("g", BUSY), ("t", "")], Status::Overload, BUSY_TEXT),
+    (STOP, &[("g", BUSY), ("t", "")], Status::Overload, BUSY_TEXT),
+    (
+        CHECK,
+        &[("g", WIDE)],
+        Status::Graph,
+        "graph hyperperiod p.f\n",
+    ),
+    (
+        RUN,
+        &[("g", WIDE), ("t", "")],
+        Status::Graph,
+        "graph hyperperiod p.f\n",
+    ),
+    (
+        CHECK,
+        &[("g", LONG_WAY)],
+        Status::Done,
+        "accepted 5 9/1000000\n",
+    ),
+    (
+        TASKS,
+        &[("g", TOO_LONG_WAY)],
+        Status::Graph,
+        "graph rate p.e span\n",
+    ),
+    (TASKS, &[("g", "")], Status::Done, ""),
 ];
-
-/// Words of a command on a graph under `g`.
-fn words_of(command: &str) -> &'static [&'static str] {
-    match command {
-        "tasks" => &["tasks", "g"],
-        "check" => &["check", "g"],
-        "run" => &["run", "g", "t"],
-        _ => &["stop", "g", "t", "0"],
-    }
-}
-
-/// Checks what a command says of a graph.
-fn check(
-    rt: &(impl Abort + AllocGlobal),
-    command: &str,
-    graph: &str,
-    text: &str,
-) -> Result<(), Fail> {
-    let alloc = rt.alloc();
-    let graph = Vec::from_slice(alloc, graph.as_bytes())?;
-    let (status, told) = ask(
-        alloc,
-        words_of(command),
-        graph,
-        Vec::new(alloc),
-        Vec::new(alloc),
-        Vec::new(alloc),
-    )?;
-    assert_eq!(rt; told.as_slice(), text.as_bytes());
-    assert_eq!(rt; status, status_of(text));
-    Ok(())
-}
 
 #[test]
 fn rates_and_loads_are_judged(rt: HostRuntime) -> Result<(), Fail> {
-    for (command, graph, text) in &ANSWERS {
-        check(&rt, command, graph, text)?;
-    }
-    Ok(())
+    judge(&rt, ANSWERS)
 }

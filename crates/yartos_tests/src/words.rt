@@ -1,10 +1,14 @@
 //! Words, against all forms.
-use crate::asked::{BLINK, USAGE, ask_on};
+use crate::graphs::BLINK;
+use crate::rows::expect;
 use std::alloc::{AllocError, Global};
 use std::process::Abort;
 use std::test::Fail;
 use yartos::Status;
-use yt_io::MemSink;
+
+/// What is written where the words are no listed form.
+const USAGE: &str =
+    "usage: yartos form G, tasks G, check G, run G T, stop G T N, set S, play S P, replay S, demo N\n";
 
 /// What words ask for: nothing, since they are no listed form; a command that isn't built yet; or one that judges this many files,
 /// which is answered so where the shelf holds them.
@@ -30,7 +34,7 @@ const SET: Asked = Asked::Judges(1, Status::Done, "accepted 2 5/10\n");
 const PLAY: Asked = Asked::Judges(2, Status::Done, "run 0 2 A 1\nend 2\n");
 
 /// The files by their names and texts, each with the place in which commands name it: graphs and a set, then a trace and a plan.
-const FILES: [(usize, &str, &str); 5] = [
+const FILES: &[(usize, &str, &str)] = &[
     (1, "g", BLINK),
     (1, "", BLINK),
     (1, "s", "task A 2 5\ntask B 1 10\n"),
@@ -39,7 +43,7 @@ const FILES: [(usize, &str, &str); 5] = [
 ];
 
 /// Lines of words with one space between them: a word may be empty.
-const LINES: [(&str, Asked); 45] = [
+const LINES: &[(&str, Asked)] = &[
     ("form g", FORM),
     ("tasks g", TASKS),
     ("check g", CHECK),
@@ -85,20 +89,25 @@ const LINES: [(&str, Asked); 45] = [
     ("demo 17", Asked::Misuse),
     ("demo 000000001", Asked::Misuse),
     ("--help", Asked::Misuse),
+    ("help", Asked::Misuse),
 ];
 
 /// The files that are named in the first places, this many of them.
-fn first_files(alloc: Global, places: usize) -> Result<Vec<(String, Vec<u8>)>, AllocError> {
-    let mut files = Vec::new(alloc);
-    for (place, name, text) in &FILES {
+fn first_files(
+    alloc: Global,
+    files: &[(usize, &str, &str)],
+    places: usize,
+) -> Result<Vec<(String, Vec<u8>)>, AllocError> {
+    let mut first = Vec::new(alloc);
+    for (place, name, text) in files {
         if *place <= places {
-            files.push((
+            first.push((
                 String::from_str(alloc, name)?,
                 Vec::from_slice(alloc, text.as_bytes())?,
             ))?;
         }
     }
-    Ok(files)
+    Ok(first)
 }
 
 /// The answer where the shelf holds the files that are named in the first places, this many of them.
@@ -116,33 +125,35 @@ fn answer_of(asked: Asked, places: usize) -> (Status, &'static str) {
     }
 }
 
-/// Asks a line's words of an empty shelf, of one with the files that are named first, and of one with all files.
+/// Asks words of an empty shelf, of one with the files that are named first, and of one with all files.
 fn check(
     rt: &(impl Abort + AllocGlobal),
-    line: &str,
+    number: usize,
     words: &[&str],
     asked: Asked,
 ) -> Result<(), Fail> {
-    let alloc = rt.alloc();
     for places in 0..3 {
-        let files = first_files(alloc, places)?;
-        let mut sink = MemSink::with_room(alloc, 1000, Vec::new(alloc))?;
-        let ended = ask_on(alloc, words, files, Vec::new(alloc), &mut sink)?;
+        let files = first_files(rt.alloc(), FILES, places)?;
         let (status, text) = answer_of(asked, places);
-        assert_eq!(rt; sink.bytes(), text.as_bytes(), "at {line}");
-        assert_eq!(rt; ended, status, "at {line}");
+        expect(rt, number, words, files, status, text)?;
+    }
+    Ok(())
+}
+
+/// Checks each line.
+fn judge_lines(rt: &(impl Abort + AllocGlobal), lines: &[(&str, Asked)]) -> Result<(), Fail> {
+    for (number, (line, asked)) in lines.iter().enumerate() {
+        let mut words = Vec::new(rt.alloc());
+        for word in line.split(' ') {
+            words.push(word)?;
+        }
+        check(rt, number, &words, *asked)?;
     }
     Ok(())
 }
 
 #[test]
 fn words_are_tested_against_all_forms(rt: HostRuntime) -> Result<(), Fail> {
-    for (line, asked) in &LINES {
-        let mut words = Vec::new(rt.alloc());
-        for word in line.split(' ') {
-            words.push(word)?;
-        }
-        check(&rt, line, &words, *asked)?;
-    }
-    check(&rt, "no words", &[], Asked::Misuse)
+    judge_lines(&rt, LINES)?;
+    check(&rt, 0, &[], Asked::Misuse)
 }

@@ -1,6 +1,7 @@
-pub mod Values
-pub mod FieldLemmas
-pub mod LineCounts
-pub mod LinesLemmas
-pub mod Decimals
-pub mod Stays
+mod Values
+mod FieldLemmas
+mod LineCounts
+mod LinesLemmas
+mod Decimals
+mod Stays
+pub mod Lemmas

@@ -1,9 +1,9 @@
-//! Text without memory: a line of at most 256 bytes, the lines and fields of a text, and numbers in decimal digits.
+//! Text: a line of at most 256 bytes, a text of any length, the lines and fields of a text, and numbers in decimal digits.
 //!
 //! A file of lines is judged line by line: those that say nothing are skipped, and the first line at fault decides
 //! (`read_lines` in `specs/Files.antt`). [`Lines`], [`is_skipped`] and [`Fields`] take it apart.
 //!
-//! Nothing here takes memory or knows what a line is about. The contracts name the exact bytes that are put, and the exact
+//! Only a [`Text`] takes memory, and nothing here knows what a line is about. The contracts name the exact bytes that are put, and the exact
 //! places and values that are found.
 #![tactic(auto)]
 
@@ -11,11 +11,13 @@ mod line;
 mod lines;
 mod numbers;
 mod span;
+mod text;
 
 pub use line::Line;
 pub use lines::{Fields, Lines, is_skipped};
 pub use numbers::{Decimal, digits, signed};
 pub use span::{Span, next_field, next_line};
+pub use text::Text;
 
 #[cfg(test)]
 mod tests {

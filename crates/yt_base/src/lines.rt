@@ -35,7 +35,7 @@ impl<'a> Lines<'a> {
 
     /// The next line, without its line feed and one carriage return before it; `None` exactly where none is left.
     pub fn next(&mut self) -> Option<&'a [u8]>
-        ensures { MatchOption result (self.old ≡ []) (λ line. self.old ≡ line.now ∷ self.new) }
+        ensures { MatchOption result ((self.old ≡ []) × (self.new ≡ [])) (λ line. self.old ≡ line.now ∷ self.new) }
     {
         let line = next_line(self.text, self.from)?;
         self.from = line.next;

@@ -1,6 +1,7 @@
 -- The order of heads is strict, and of two different ones one comes first.
 use Rattle.std.proofs.Common.{◌≡◌, ℕ, ◌<◌, ◌≤◌, ◌⊎◌, true, false, ◌&&◌, eqb, ltb, refl, sym, ap, ◌∙◌, inl, inr, ⊎_elim, arith, eqb-true, eq-eqb, ltb-true, lt-ltb}
-use Rattle.std.proofs.lemmas.Bool.{cases_lt, and_parts, and_from, or_cases, or_left, or_right, both_ways, false_from_ne_true, true_from_ne_false}
+use Rattle.std.proofs.lemmas.Bool.{cases_lt, and_parts, and_from, or_cases, or_left, or_right, both_ways, false_from_ne_true}
+use Rattle.yt_order.specs.Orders.{IsStrictOrder}
 use Rattle.yt_chan.specs.declared.heads.Head.{Head}
 use Rattle.yt_chan.specs.declared.target.Arrived.{Arrived}
 use Rattle.yt_chan.specs.declared.target.Arrived.TheVariants.{Port, Output}
@@ -63,7 +64,7 @@ before_is a b h =
     (and_from (eqb a.time b.time) (target_before a.target b.target) (eq-eqb a.time b.time r.0) (target_test a.target b.target r.1)))
     h
 
-pub before_on : (a b c : Head) → comes_before a b ≡ true → comes_before b c ≡ true → comes_before a c ≡ true
+before_on : (a b c : Head) → comes_before a b ≡ true → comes_before b c ≡ true → comes_before a c ≡ true
 before_on a b c h k =
     before_is a c
     (⊎_elim
@@ -79,9 +80,6 @@ pub not_itself : (a : Head) → comes_before a a ≡ false
 not_itself a =
     false_from_ne_true (comes_before a a) (λ k. ⊎_elim (λ (l : a.time < a.time). omega arith) (λ (r : (a.time ≡ a.time) × ComesBefore a.target a.target). target_once a.target r.1) (is_before a a k))
 
-pub not_after : (a b : Head) → comes_before a b ≡ true → comes_before b a ≡ false
-not_after a b h = false_from_ne_true (comes_before b a) (λ k. both_ways (comes_before a a) (not_itself a) (before_on a b a h k))
-
 pub not_before_both : (a b : Head) → comes_before a b ≡ false → comes_before b a ≡ false → a ≡ b
 not_before_both a b h k =
     let x : IsBefore a b → ⊥ = λ y. both_ways (comes_before a b) h (before_is a b y) in
@@ -91,5 +89,6 @@ not_before_both a b h k =
     let made : ℕ → Arrived → Head = λ time target. record { time = time; target = target } in
     ap (λ (n : ℕ). made n a.target) t ∙ ap (made b.time) e
 
-pub other_way : (a b : Head) → comes_before a b ≡ false → (b ≡ a → ⊥) → comes_before b a ≡ true
-other_way a b h ne = true_from_ne_false (comes_before b a) (λ k. ne (not_before_both b a k h))
+-- the order of heads is strict
+pub heads_are_ordered : IsStrictOrder comes_before
+heads_are_ordered = record { on = before_on; itself = not_itself; either = not_before_both }

@@ -3,7 +3,7 @@ use Rattle.std.proofs.Common.{◌≡◌, ℕ, zero, suc, ◌+◌, ◌-◌, ◌*�
 use Rattle.std.proofs.lemmas.Bool.{cases_Bool, cond-true, cond-false}
 use Rattle.std.proofs.lemmas.List.{drop-append-le}
 use Rattle.std.proofs.lemmas.Nat.{mul-le}
-use Rattle.yt_log.proofs.Multiples.{next_multiple}
+use Rattle.yt_log.proofs.Lemmas.{next_multiple}
 use Rattle.yt_chan.specs.declared.wire.Wire.{Wire}
 use Rattle.yt_chan.specs.declared.queue.WireQueue.{WireQueue}
 use Rattle.yt_chan.specs.Inside.Banks.{Batch, due_messages}

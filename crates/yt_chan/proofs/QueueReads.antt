@@ -65,14 +65,6 @@ pub time_new : (gap : ℕ) (queue : WireQueue) (n : ℕ) → length queue.older.
 unfolding time_at
 time_new gap queue n h = cond-false _ _ _ (le-ltb n (length queue.older.messages) h)
 
-pub message_old : (queue : WireQueue) (n : ℕ) → n < length queue.older.messages → message_at queue n ≡ get_or queue.older.messages n []
-unfolding message_at
-message_old queue n h = cond-true _ _ _ (lt-ltb n (length queue.older.messages) h)
-
-pub message_new : (queue : WireQueue) (n : ℕ) → length queue.older.messages ≤ n → message_at queue n ≡ get_or queue.newer.messages (n - length queue.older.messages) []
-unfolding message_at
-message_new queue n h = cond-false _ _ _ (le-ltb n (length queue.older.messages) h)
-
 -- the first of the messages from a place on
 pub waiting_from : (gap : ℕ) (queue : WireQueue) (n : ℕ) → n < count queue →
     drop n (pending_of gap queue) ≡ (record { time = time_at gap queue n; number = number_at queue n; values = message_at queue n }) ∷ drop (suc n) (pending_of gap queue)

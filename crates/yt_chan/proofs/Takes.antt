@@ -11,7 +11,8 @@ use Rattle.yt_chan.specs.declared.target.Arrived.TheVariants.{Port, Output}
 use Rattle.yt_chan.specs.declared.inbox.Inbox.{Inbox}
 use Rattle.yt_chan.specs.declared.port.PortJob.{PortJob}
 use Rattle.yt_chan.specs.Changes.{Delivers, StartsHandlingAt, IsLeastTime}
-use Rattle.yt_chan.specs.Inside.Heads.{HasOneMore, IsFirst, comes_before}
+use Rattle.yt_order.specs.Falling.{HasOneMore}
+use Rattle.yt_chan.specs.Inside.Heads.{IsFirst, comes_before}
 use Rattle.yt_chan.specs.Inside.Queues.{state_of}
 use Rattle.yt_chan.specs.Inside.Next.{Adds, AreHeads, AreNext, due_of}
 use Rattle.yt_chan.specs.Inside.Sound.{CanArrive, StartsHandlingIn, IsPut, IsSound, IsThere, arrived, closed_at, no_inbox, inbox_of}
@@ -70,7 +71,7 @@ is_next widths wires queues jobs ports outputs heads head now is are none first 
   first = λ other before due.
       let e = due_is widths wires queues jobs ports outputs is.long other ∙ due_head widths wires queues jobs ports outputs is now none other due in
       let in' = are.all other now e in
-      both_ways (comes_before (head_of now other) head) (first.least (head_of now other) in') (before_is (head_of now other) head (inr (sym time, before)));
+      both_ways (comes_before (head_of now other) head) (first.first (head_of now other) in') (before_is (head_of now other) head (inr (sym time, before)));
 }
 
 -- what stays true, and what has changed, once the message is placed
@@ -139,7 +140,7 @@ none_due widths wires queues jobs ports outputs heads now is are none either tar
     let f = none n.0 (first.target, n.1) in
     let g = n.2 in
     ⊎_elim
-    (λ (l : now < first.time). both_ways (comes_before (head_of now target) first) (x.1.least (head_of now target) in') (before_is (head_of now target) first (inl l)))
+    (λ (l : now < first.time). both_ways (comes_before (head_of now target) first) (x.1.first (head_of now target) in') (before_is (head_of now target) first (inl l)))
     (λ (l : first.time ≤ now). x.2 (omega arith))
     (cases_lt now first.time))
     either
@@ -158,7 +159,7 @@ least_first widths wires queues jobs ports outputs heads head is are first =
           let in' = are.all w.0 h.0 (due_is widths wires queues jobs ports outputs is.long w.0 ∙ h.1) in
           let g = h.2 in
           ⊎_elim
-          (λ (l : h.0 < head.time). absurd (both_ways (comes_before (head_of h.0 w.0) head) (first.least (head_of h.0 w.0) in') (before_is (head_of h.0 w.0) head (inl l))))
+          (λ (l : h.0 < head.time). absurd (both_ways (comes_before (head_of h.0 w.0) head) (first.first (head_of h.0 w.0) in') (before_is (head_of h.0 w.0) head (inl l))))
           (λ (l : head.time ≤ h.0). omega arith)
           (cases_lt h.0 head.time);
     }

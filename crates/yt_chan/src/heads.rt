@@ -2,7 +2,8 @@
 ghost use Rattle.std.specs.Prelude.{◌≡◌, ◌≢◌, ◌⊎◌, [], IfOk, MatchOption};
 ghost use Rattle.std.specs.List.{Contains};
 ghost use Rattle.yt_chan.specs.declared.heads.Head.{Head};
-ghost use Rattle.yt_chan.specs.Inside.Heads.{comes_before, target_before, HasAlso, HasOneMore, IsFalling, IsFirst, IsPlaceFor, IsWithin};
+ghost use Rattle.yt_order.specs.Falling.{HasOneMore};
+ghost use Rattle.yt_chan.specs.Inside.Heads.{comes_before, target_before, HasAlso, IsFalling, IsFirst, IsPlaceFor, IsWithin};
 
 use crate::target::Arrived;
 use std::alloc::{AllocError, Global};
@@ -28,13 +29,14 @@ pub(crate) struct Heads {
 impl Model for Heads {
     ghost use Rattle.std.specs.Prelude.{List, ◌≤◌, vec_capacity};
     ghost use Rattle.yt_chan.specs.declared.heads.Head.{Head};
+    ghost use Rattle.yt_chan.specs.Limits.{most_targets};
     ghost use Rattle.yt_chan.specs.Inside.Heads.{AreApart, IsFalling};
 
     ghost Value = { List Head };
 
     ghost view = { λ h. h.heads.items };
 
-    ghost invariant = { λ h. IsFalling h.heads.items × AreApart h.heads.items × (82 ≤ vec_capacity h.heads) };
+    ghost invariant = { λ h. IsFalling h.heads.items × AreApart h.heads.items × (most_targets ≤ vec_capacity h.heads) };
 }
 
 impl Heads {

@@ -1,5 +1,6 @@
 //! A wire's messages, in two banks: one waits while the other fills.
 ghost use Rattle.std.specs.Prelude.{◌≡◌, ◌+◌, ◌<◌, ◌≤◌, ◌^◌, [], length, slice_index_or, false, Bool, IfOk};
+ghost use Rattle.yt_chan.specs.Limits.{most_base, most_gap, most_sends};
 ghost use Rattle.yt_chan.specs.Inside.Banks.{no_batch};
 ghost use Rattle.yt_chan.specs.Inside.Queues.{closed_by, count, message_at, no_queue, sent, time_at};
 
@@ -69,7 +70,7 @@ impl WireQueue {
     /// How many messages wait, or did until every target had them.
     #[tactic(auto, unfolding(crate::specs::Inside::Queues::count))]
     pub(crate) fn count(&self) -> usize
-        requires { (length self.now.older.messages ≤ 64) × (length self.now.newer.messages ≤ 64) }
+        requires { (length self.now.older.messages ≤ most_sends) × (length self.now.newer.messages ≤ most_sends) }
         ensures { result ≡ count self.now }
     {
         if self.closed {
@@ -82,9 +83,9 @@ impl WireQueue {
     /// The tick at which the message at place `n`, counted from 0, is due. The caller shows that it is below 2^64.
     #[tactic(auto, unfolding(crate::specs::Inside::Queues::time_at))]
     pub(crate) fn time(&self, n: usize, gap: u64) -> u64
-        requires bases { (self.now.older.base ≤ 9000000) × (self.now.newer.base ≤ 9000000) }
-        requires few { (length self.now.older.messages ≤ 64) × (n < 64 + length self.now.older.messages) }
-        requires gap { gap ≤ 1000000000 }
+        requires bases { (self.now.older.base ≤ most_base) × (self.now.newer.base ≤ most_base) }
+        requires few { (length self.now.older.messages ≤ most_sends) × (n < most_sends + length self.now.older.messages) }
+        requires gap { gap ≤ most_gap }
         ensures { result ≡ time_at gap self.now n }
     {
         let older = self.older.len();

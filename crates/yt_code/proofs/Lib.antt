@@ -1,4 +1,4 @@
 mod Examples
-pub mod Shapes
-pub mod Ready
+mod Shapes
+mod Ready
 mod Tops

@@ -2,6 +2,7 @@
 use Rattle.std.specs.Prelude.{◌≡◌, ℕ, suc, ◌<◌, ◌≤◌, ℤ, pos, List, [], ◌∷◌, length, Option, None, Some}
 use Rattle.yt_code.specs.declared.instr.Instr.{Instr}
 use Rattle.yt_code.specs.declared.instr.Instr.TheVariants.{Push, Local, Var, SetLocal, SetVar, Neg, Not, Two, Call, Send, JumpZero, Jump, Loop, Again, End}
+use Rattle.yt_code.specs.declared.limits.TheConstants.{MOST_OPEN_LOOPS, STACK_ROOM}
 use Rattle.yt_code.specs.Step.{State, Tick}
 
 -- there is a turn left in the innermost loop
@@ -12,9 +13,9 @@ HasTurn (_ ∷ rest) = ⊥
 
 -- what an instruction has to find
 abbrev pub Finds : Instr → State → ℕ → Type 0
-Finds (Push n) m vars = length m.stack < 40
-Finds (Local i) m vars = (length m.stack < 40) × (i < length m.locals)
-Finds (Var i) m vars = (length m.stack < 40) × (i < vars)
+Finds (Push n) m vars = length m.stack < STACK_ROOM
+Finds (Local i) m vars = (length m.stack < STACK_ROOM) × (i < length m.locals)
+Finds (Var i) m vars = (length m.stack < STACK_ROOM) × (i < vars)
 Finds (SetLocal i) m vars = (0 < length m.stack) × (i < length m.locals)
 Finds (SetVar i) m vars = (0 < length m.stack) × (i < vars)
 Finds Neg m vars = 0 < length m.stack
@@ -24,7 +25,7 @@ Finds (Call op args ticks code) m vars = ⊥
 Finds (Send out width) m vars = width ≤ length m.stack
 Finds (JumpZero to) m vars = 0 < length m.stack
 Finds (Jump to) m vars = Unit {0}
-Finds (Loop most to) m vars = (0 < length m.stack) × (length m.loops < 8)
+Finds (Loop most to) m vars = (0 < length m.stack) × (length m.loops < MOST_OPEN_LOOPS)
 Finds (Again to) m vars = HasTurn m.loops
 Finds End m vars = Unit {0}
 

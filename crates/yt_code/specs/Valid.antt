@@ -2,6 +2,8 @@
 use Rattle.std.specs.Prelude.{◌≡◌, ℕ, ◌+◌, ◌-◌, ◌<◌, ◌≤◌, List, [], ◌∷◌, slice_get, Some}
 use Rattle.yt_code.specs.declared.instr.Instr.{Instr}
 use Rattle.yt_code.specs.declared.instr.Instr.TheVariants.{Push, Local, Var, SetLocal, SetVar, Neg, Not, Two, Call, Send, JumpZero, Jump, Loop, Again, End}
+use Rattle.yt_graph.specs.Limits.{most_locals}
+use Rattle.yt_code.specs.declared.limits.TheConstants.{MOST_OPEN_LOOPS, STACK_ROOM}
 
 -- the code of a handler: its instructions, and how many parameters, locals (parameters among them) and variables it is for
 pub record Program : Type 0 where
@@ -37,11 +39,11 @@ IsFine shapes code p (Loop most to) d o = (0 < d) × Leads shapes (p + 1) (d - 1
 IsFine shapes code p (Again to) d o = (0 < o) × Leads shapes (p + 1) d (o - 1) × Leads shapes to d o
 IsFine shapes code p End d o = Unit {0}
 
--- each of these instructions, from place p on, has its shape, is fine there, and finds at most 40 numbers and 8 open loops
+-- each of these instructions, from place p on, has its shape, is fine there, and finds no more numbers and open loops than there is room for
 abbrev pub AreFine : List Shape → Program → ℕ → List Instr → List Shape → Type 0
 AreFine all code p [] [] = Unit {0}
 AreFine all code p (i ∷ instrs) (s ∷ shapes) =
-    (s.depth ≤ 40) × (s.open_loops ≤ 8) × IsFine all code p i s.depth s.open_loops × AreFine all code (p + 1) instrs shapes
+    (s.depth ≤ STACK_ROOM) × (s.open_loops ≤ MOST_OPEN_LOOPS) × IsFine all code p i s.depth s.open_loops × AreFine all code (p + 1) instrs shapes
 AreFine all code p _ _ = ⊥
 
 -- the first place is there, with nothing on the stack and no loop open, and there are shapes that every way keeps
@@ -50,4 +52,4 @@ pub record IsValidCode (code : Program) : Type 0 where
   pub first : Leads shapes 0 0 0
   pub fine : AreFine shapes code 0 code.instrs shapes
   pub params_are_locals : code.params ≤ code.locals
-  pub few_locals : code.locals ≤ 16
+  pub few_locals : code.locals ≤ most_locals

@@ -8,6 +8,7 @@
 mod code;
 mod instr;
 mod laws;
+mod limits;
 mod machine;
 mod outbox;
 mod pile;
@@ -16,6 +17,7 @@ mod stepped;
 pub use code::Code;
 pub use instr::{Instr, Instrs};
 pub use laws::valid_code_is_never_stuck;
+pub use limits::{MOST_LOCALS, MOST_OPEN_LOOPS, STACK_ROOM};
 pub use machine::Machine;
 pub use outbox::Outbox;
 pub use stepped::Stepped;

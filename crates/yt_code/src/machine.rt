@@ -9,6 +9,7 @@ ghost use Rattle.yt_code.specs.Needs.{Finds, HasTurn, IsQuiet};
 
 use crate::code::Code;
 use crate::instr::Instr;
+use crate::limits::{MOST_LOCALS, MOST_OPEN_LOOPS, STACK_ROOM};
 use crate::outbox::Outbox;
 use crate::pile::Pile;
 use crate::stepped::Stepped;
@@ -21,9 +22,9 @@ use yt_graph::{Op2, applied, inverted, negated, turns_made};
 pub struct Machine {
     place: usize,
     spent: u32,
-    stack: Pile<40>,
-    loops: Pile<8>,
-    locals: ArrayVec<i64, 16>,
+    stack: Pile<STACK_ROOM>,
+    loops: Pile<MOST_OPEN_LOOPS>,
+    locals: ArrayVec<i64, MOST_LOCALS>,
 }
 
 impl Model for Machine {
@@ -90,7 +91,7 @@ impl Machine {
     }
 
     fn push(&mut self, x: i64)
-        requires room { length self.old.stack < 40 }
+        requires room { length self.old.stack < STACK_ROOM }
         requires next { self.old.place + 1 < 2 ^ 64 }
         ensures { self.new ≡ at_place (self.old.place + 1) (x ∷ self.old.stack) self.old.loops self.old.locals }
     {
@@ -105,7 +106,7 @@ impl Machine {
         ensures place { self.new.place ≡ self.old.place + 1 }
         ensures spent { self.new.spent ≡ 0 }
         ensures stack { self.old.stack ≡ result ∷ self.new.stack }
-        ensures room { length self.new.stack < 40 }
+        ensures room { length self.new.stack < STACK_ROOM }
         ensures loops { self.new.loops ≡ self.old.loops }
         ensures locals { self.new.locals ≡ self.old.locals }
     {
@@ -207,7 +208,7 @@ impl Machine {
 
     fn enter(&mut self, max: u32, to: u32)
         requires found { 0 < length self.old.stack }
-        requires room { length self.old.loops < 8 }
+        requires room { length self.old.loops < MOST_OPEN_LOOPS }
         requires next { self.old.place + 1 < 2 ^ 64 }
         ensures { IsQuiet (effect (Instr.Loop max to) self.old []) self.new }
     {

@@ -1,13 +1,14 @@
-pub mod CodeFits
-pub mod CodePlaces
-pub mod CodeGoes
-pub mod CodeLogs
-pub mod CodeMeans
-pub mod CodeShapes
-pub mod CodeValid
-pub mod CodeUses
-pub mod CodeShort
-pub mod CodeMade
-pub mod CodeKeeps
-pub mod Compiled
-pub mod CodeOwn
+mod CodeFits
+mod CodePlaces
+mod CodeGoes
+mod CodeLogs
+mod CodeMeans
+mod CodeShapes
+mod CodeValid
+mod CodeUses
+mod CodeShort
+mod CodeMade
+mod CodeKeeps
+mod Compiled
+mod CodeOwn
+pub mod Lemmas

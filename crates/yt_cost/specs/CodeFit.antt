@@ -4,6 +4,7 @@ use Rattle.std.specs.List.{All}
 use Rattle.yt_graph.specs.Picture.{ExprTree, num, local, var, neg, lnot, two, call, ExprsTree, no_exprs, more_exprs, StmtTree, set_local, set_var, send, if_only, if_else, repeat, BlockTree, empty, more, PortTree, GraphTree}
 use Rattle.yt_graph.specs.WellFormed.{IsFinePort}
 use Rattle.yt_graph.specs.Cost.{greatest_cost}
+use Rattle.yt_graph.specs.Limits.{most_cost}
 use Rattle.yt_code.specs.Valid.{IsValidCode}
 use Rattle.yt_cost.specs.Code.{port_code}
 
@@ -39,13 +40,13 @@ abbrev mutual
 abbrev pub HasNoCalls : GraphTree → Type 0
 HasNoCalls graph = All (λ p. block_calls p.body ≡ false) graph.ports
 
--- the handler is that of a well-formed port in a graph with so many variables, calls no operator, and takes 1,000,000 ticks at most
+-- the handler is that of a well-formed port in a graph with so many variables, calls no operator, and takes no more ticks than it may
 pub record IsHandlerFit (vars : ℕ) (port : PortTree) : Type 0 where
   pub graph : GraphTree
   pub all_vars : length graph.vars ≡ vars
   pub well_formed : IsFinePort graph port
   pub no_calls : block_calls port.body ≡ false
-  pub cost : greatest_cost port ≤ 1000000
+  pub cost : greatest_cost port ≤ most_cost
 
 -- the code of such a handler is valid, so a machine is never stuck in it
 abbrev pub CompiledIsValid : Type 0

@@ -4,24 +4,26 @@ use Rattle.std.specs.Option.{option_map, option_or}
 use Rattle.yt_graph.specs.declared.port.OutHead.{OutHead}
 use Rattle.yt_graph.specs.Picture.{PortTree, GraphTree}
 use Rattle.yt_graph.specs.Cost.{greatest_cost, greatest_sends}
+use Rattle.yt_graph.specs.Limits.{most_cost}
 use Rattle.yt_cost.specs.declared.fault.CostFault.{CostFault}
 use Rattle.yt_cost.specs.declared.fault.CostFault.TheVariants.{Long, Sends, Memory}
+use Rattle.yt_cost.specs.declared.limits.TheConstants.{MOST_SENDS}
 
--- no handling takes more than 1,000,000 ticks, nor sends more than 64 messages on an out
+-- no handling takes more ticks, nor sends more messages on an out, than it may
 pub record IsWithinLimits (port : PortTree) : Type 0 where
-  pub ticks : greatest_cost port ≤ 1000000
-  pub sends : (out : ℕ) → 1 ≤ out → out ≤ length port.outs → greatest_sends port out ≤ 64
+  pub ticks : greatest_cost port ≤ most_cost
+  pub sends : (out : ℕ) → 1 ≤ out → out ≤ length port.outs → greatest_sends port out ≤ MOST_SENDS
 
 -- the first of these outs of a port on which a handling may send too many messages, where they are numbered from this one on
 abbrev pub crowded_out : PortTree → ℕ → List OutHead → Option ℕ
 crowded_out port out [] = None
 crowded_out port out (o ∷ rest) =
-    if nat_lt 64 (greatest_sends port out) then Some out else crowded_out port (out + 1) rest
+    if nat_lt MOST_SENDS (greatest_sends port out) then Some out else crowded_out port (out + 1) rest
 
 -- the fault of a port with this number: too many ticks, else too many messages on an out
 abbrev pub port_fault : ℕ → PortTree → Option CostFault
 port_fault number port =
-    if nat_lt 1000000 (greatest_cost port)
+    if nat_lt most_cost (greatest_cost port)
     then Some (Long number (min (greatest_cost port) (2 ^ 64 - 1)))
     else option_map (Sends number) (crowded_out port 1 port.outs)
 

@@ -3,6 +3,7 @@
 ghost use Rattle.std.specs.Prelude.{◌≡◌, ◌-◌, ◌≤◌, length, slice_index};
 ghost use Rattle.yt_cost.specs.Codes.{ForCode};
 
+use crate::limits::MOST_OUTS;
 use arrayvec::ArrayVec;
 use std::marker::Model;
 use yt_code::Code;
@@ -16,7 +17,7 @@ pub(crate) struct Kept {
     /// The most ticks that a handling may take.
     pub cost: u64,
     /// The most messages that a handling may send on each out.
-    pub sends: ArrayVec<u32, 8>,
+    pub sends: ArrayVec<u32, MOST_OUTS>,
 }
 
 impl Model for Kept {

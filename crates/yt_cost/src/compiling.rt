@@ -5,6 +5,7 @@ ghost use Rattle.std.specs.List.{All};
 ghost use Rattle.std.specs.Option.{option_map};
 ghost use Rattle.yt_graph.specs.Picture.{graph_tree, port_tree};
 ghost use Rattle.yt_graph.specs.Cost.{greatest_cost};
+ghost use Rattle.yt_graph.specs.Limits.{most_cost, most_outs};
 ghost use Rattle.yt_graph.specs.WellFormed.{IsWellFormed};
 ghost use Rattle.yt_cost.specs.CodeFit.{HasNoCalls, IsHandlerFit};
 ghost use Rattle.yt_cost.specs.Codes.{IsCodeOf, AreCodesOf, AreSendsOf};
@@ -13,6 +14,7 @@ ghost use Rattle.yt_cost.specs.Faults.{IsWithinLimits, crowded_out, port_fault, 
 use crate::codes::{Codes, Kept};
 use crate::emit::compile_port;
 use crate::fault::CostFault;
+use crate::limits::{MOST_OUTS, MOST_SENDS, MOST_TICKS};
 use crate::sends::sends_in_all;
 use crate::ticks::block_ticks;
 use arrayvec::ArrayVec;
@@ -20,16 +22,10 @@ use std::alloc::Global;
 use yt_graph::{Graph, Port};
 use yt_list::Items;
 
-// The most ticks that a handling may take.
-const MOST_TICKS: u64 = 1_000_000;
-
-// The most messages that a handling may send on an out.
-const MOST_SENDS: u32 = 64;
-
 /// Compiles the handler of each port. The caller shows that the graph is well formed and that no handler calls an operator.
 ///
 /// The first port at fault decides, and at one port Long comes before Sends, at its first out. Takes time in proportion to
-/// the size of the handlers, times the depth of their blocks or the number of their outs, which are at most 8.
+/// the size of the handlers, times the depth of their blocks or the number of their outs, which are few.
 pub fn compile(alloc: Global, graph: &Graph) -> Result<Codes, CostFault>
     requires well_formed { IsWellFormed (graph_tree graph.now) }
     requires no_calls { HasNoCalls (graph_tree graph.now) }
@@ -53,8 +49,8 @@ pub fn compile(alloc: Global, graph: &Graph) -> Result<Codes, CostFault>
 
 // What is kept of the port of this number, from 1, in a graph with so many variables; or its fault.
 fn compile_one(alloc: Global, number: u32, port: &Port, vars: u32) -> Result<Kept, CostFault>
-    requires fit { greatest_cost (port_tree port.now) ≤ 1000000 → IsHandlerFit vars (port_tree port.now) }
-    requires few_outs { length port.now.outs ≤ 8 }
+    requires fit { greatest_cost (port_tree port.now) ≤ most_cost → IsHandlerFit vars (port_tree port.now) }
+    requires few_outs { length port.now.outs ≤ most_outs }
     ensures kept { IfOk result (λ kept. IsCodeOf vars (port_tree port.now) kept) }
     ensures no_fault { IfOk result (λ _. port_fault number (port_tree port.now) ≡ None) }
     ensures err { IfErr result (λ fault. IsFaultOf (port_fault number (port_tree port.now)) fault) }
@@ -72,8 +68,8 @@ fn compile_one(alloc: Global, number: u32, port: &Port, vars: u32) -> Result<Kep
 }
 
 // The most messages on each out of the port of this number, from 1; or the fault of the first out that has too many.
-fn sends_of_outs(number: u32, port: &Port) -> Result<ArrayVec<u32, 8>, CostFault>
-    requires { length port.now.outs ≤ 8 }
+fn sends_of_outs(number: u32, port: &Port) -> Result<ArrayVec<u32, MOST_OUTS>, CostFault>
+    requires { length port.now.outs ≤ most_outs }
     ensures sends { IfOk result (λ sends. AreSendsOf (port_tree port.now) sends.items) }
     ensures none { IfOk result (λ _. crowded_out (port_tree port.now) 1 port.now.outs ≡ None) }
     ensures err { IfErr result (λ fault. option_map (CostFault.Sends number) (crowded_out (port_tree port.now) 1 port.now.outs) ≡ Some fault) }

@@ -11,6 +11,7 @@ mod compiling;
 mod emit;
 mod fault;
 mod laws;
+mod limits;
 mod sends;
 mod ticks;
 
@@ -21,3 +22,4 @@ pub use laws::{
     compiled_code_is_valid, compiled_code_means_its_port, compiled_code_uses_own_variables,
     steps_keep_to_variables,
 };
+pub use limits::{MOST_OUTS, MOST_SENDS, MOST_TICKS};

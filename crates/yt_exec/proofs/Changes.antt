@@ -8,9 +8,9 @@ use Rattle.yt_log.specs.Tasks.{Has}
 use Rattle.yt_log.specs.Plan.{same_job, its_task, jobs_of, IsNext, IsLegalAfter, IsLegal}
 use Rattle.yt_log.specs.Ticks.{Ticks, done}
 use Rattle.yt_log.specs.Laws.{IsLike, AreLike}
-use Rattle.yt_log.proofs.Jobs.{cases_job, same_job_true, same_job_refl}
-use Rattle.yt_log.proofs.Plans.{jobs_of-cons}
-use Rattle.yt_exec.specs.declared.executive.Release.{Release}
+use Rattle.yt_log.proofs.Lemmas.{cases_job, same_job_true, same_job_refl}
+use Rattle.yt_log.proofs.Lemmas.{jobs_of-cons}
+use Rattle.yt_log.specs.declared.last_jobs.LastJob.{LastJob}
 use Rattle.yt_exec.specs.Bodies.{task_in}
 use Rattle.yt_exec.specs.StandsFor.{with_cost, last_release}
 
@@ -83,14 +83,14 @@ jobs_with job c n (x ∷ xs) =
     ap (jobs_of n) f ∙ jobs_of-cons n (changed job c x) (with_cost job c xs) ∙
     ap₂ (λ (t r : ℕ). cond (eqb t n) 1 0 + r) e (jobs_with job c n xs) ∙ sym (jobs_of-cons n x xs)
 
-pub releases_with : (job : Job) (c n : ℕ) (last : Release) (xs : List PlanItem) → last_release last n (with_cost job c xs) ≡ last_release last n xs
+pub releases_with : (job : Job) (c n : ℕ) (last : LastJob) (xs : List PlanItem) → last_release last n (with_cost job c xs) ≡ last_release last n xs
 unfolding with_cost last_release
 releases_with job c n last [] = refl
 releases_with job c n last (x ∷ xs) =
-    let made : Job → ℕ → Release = λ j a. cond (eqb j.task n) (record { number = j.number; arrival = a }) last in
+    let made : Job → ℕ → LastJob = λ j a. cond (eqb j.task n) (record { number = j.number; arrival = a }) last in
     let e : made (changed job c x).job (changed job c x).arrival ≡ made x.job x.arrival = ap₂ made (changed_job job c x) (changed_arrival job c x) in
     let f : last_release last n (with_cost job c (x ∷ xs)) ≡ last_release (made (changed job c x).job (changed job c x).arrival) n (with_cost job c xs) = ap (last_release last n) (with_cost-cons job c x xs) in
-    f ∙ ap (λ (r : Release). last_release r n (with_cost job c xs)) e ∙ releases_with job c n (made x.job x.arrival) xs
+    f ∙ ap (λ (r : LastJob). last_release r n (with_cost job c xs)) e ∙ releases_with job c n (made x.job x.arrival) xs
 
 module _ (tasks : List Task) (job : Job) (c : ℕ) (some : 1 ≤ c) (most : c ≤ (task_in tasks job).cost) where
   changed_some : (i : PlanItem) → 1 ≤ i.cost → 1 ≤ (changed job c i).cost

@@ -8,8 +8,8 @@ use Rattle.yt_log.specs.declared.job.Job.{Job}
 use Rattle.yt_log.specs.declared.plan.PlanItem.{PlanItem}
 use Rattle.yt_log.specs.Tasks.{Has}
 use Rattle.yt_log.specs.Plan.{its_task, jobs_of, IsNext, IsLegalAfter, IsLegal}
-use Rattle.yt_log.proofs.Plans.{jobs_of-cons, good_item}
-use Rattle.yt_log.proofs.Appends.{has_push, jobs_push_same, jobs_push_other, jobs_none}
+use Rattle.yt_log.proofs.Lemmas.{jobs_of-cons, good_item}
+use Rattle.yt_log.proofs.Lemmas.{has_push, jobs_push_same, jobs_push_other, jobs_none}
 use Rattle.yt_exec.specs.declared.counts.Count.{Count}
 use Rattle.yt_exec.specs.Counting.{no_count, count_at, cost_at, left_at}
 

@@ -8,11 +8,12 @@ use Rattle.yt_log.specs.declared.job.Job.{Job}
 use Rattle.yt_log.specs.declared.plan.PlanItem.{PlanItem}
 use Rattle.yt_log.specs.Plan.{its_task, deadline_of}
 use Rattle.yt_log.specs.Ticks.{Ticks, tick, names, done, first_tick}
-use Rattle.yt_log.specs.EdfDdm.{lowered, current_deadline, rank as log_rank, precedes as log_precedes}
-use Rattle.yt_log.proofs.Ticks.{done_yes, done_no, first-suc, first-suc_zero}
-use Rattle.yt_log.proofs.Choices.{current_fresh}
+use Rattle.yt_log.specs.EdfDdm.{lowered, current_deadline, rank as log_rank}
+use Rattle.yt_log.proofs.Lemmas.{done_yes, done_no, first-suc, first-suc_zero}
+use Rattle.yt_log.proofs.Lemmas.{current_fresh}
+use Rattle.yt_order.specs.Words.{precedes}
 use Rattle.yt_ready.specs.declared.entry.Entry.{Entry}
-use Rattle.yt_ready.specs.Order.{rank, precedes, comes_before}
+use Rattle.yt_ready.specs.Order.{rank, comes_before}
 use Rattle.yt_exec.specs.Moments.{after_tick}
 use Rattle.yt_exec.specs.StandsFor.{entry_of}
 
@@ -131,13 +132,6 @@ module _ (tasks : List Task) (log : Ticks) (o : Option Job) (i : PlanItem) where
       ap₂ (made i) same (begun_yes (done (log ++ o ∷ []) i.job (length (log ++ o ∷ []))) (omega arith))
 
 -- entries come in the order of the rule
-same_precedes : (xs ys : List ℕ) → precedes xs ys ≡ log_precedes xs ys
-unfolding precedes log_precedes
-same_precedes [] [] = refl
-same_precedes [] (y ∷ ys) = refl
-same_precedes (x ∷ xs) [] = refl
-same_precedes (x ∷ xs) (y ∷ ys) = ap (λ (b : Bool). ltb x y || (eqb x y && b)) (same_precedes xs ys)
-
 same_word : (b : Bool) → cond {A = ℕ} (cond b false true) 0 1 ≡ cond {A = ℕ} b 1 0
 same_word true = refl
 same_word false = refl
@@ -147,6 +141,6 @@ unfolding rank log_rank
 same_rank tasks log i =
     ap (λ (w : ℕ). current_deadline tasks log (length log) i ∷ w ∷ i.arrival ∷ i.job.task ∷ i.job.number ∷ []) (same_word (eqb (done log i.job (length log)) 0))
 
-pub same_order : (tasks : List Task) (log : Ticks) (a b : PlanItem) → comes_before (entry_of tasks log a) (entry_of tasks log b) ≡ log_precedes (log_rank tasks log (length log) a) (log_rank tasks log (length log) b)
+pub same_order : (tasks : List Task) (log : Ticks) (a b : PlanItem) → comes_before (entry_of tasks log a) (entry_of tasks log b) ≡ precedes (log_rank tasks log (length log) a) (log_rank tasks log (length log) b)
 same_order tasks log a b =
-    ap₂ precedes (same_rank tasks log a) (same_rank tasks log b) ∙ same_precedes (log_rank tasks log (length log) a) (log_rank tasks log (length log) b)
+    ap₂ precedes (same_rank tasks log a) (same_rank tasks log b)

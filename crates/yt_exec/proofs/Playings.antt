@@ -13,13 +13,13 @@ use Rattle.yt_log.specs.Plan.{IsNext, IsLegal}
 use Rattle.yt_log.specs.Ticks.{Ticks}
 use Rattle.yt_log.specs.EdfDdm.{IsEdfDdm, edf_ddm}
 use Rattle.yt_log.specs.Laws.{IsSafe}
-use Rattle.yt_log.proofs.Exclusions.{rule_is_safe}
-use Rattle.yt_log.proofs.Growing.{grows_online}
-use Rattle.yt_log.proofs.Made.{rule_makes_logs, rule_is_determined}
+use Rattle.yt_log.proofs.Lemmas.{rule_is_safe}
+use Rattle.yt_log.proofs.Lemmas.{grows_online}
+use Rattle.yt_log.proofs.Lemmas.{rule_makes_logs, rule_is_determined}
 use Rattle.yt_ready.specs.declared.entry.Entry.{Entry}
-use Rattle.yt_ready.specs.Waiting.{HasOneMore}
+use Rattle.yt_order.specs.Falling.{HasOneMore}
 use Rattle.yt_exec.specs.declared.counts.Count.{Count}
-use Rattle.yt_exec.specs.declared.executive.Release.{Release}
+use Rattle.yt_log.specs.declared.last_jobs.LastJob.{LastJob}
 use Rattle.yt_exec.specs.declared.executive.Ticked.{Ticked}
 use Rattle.yt_exec.specs.declared.executive.Ticked.TheVariants.{Idle, Ran}
 use Rattle.yt_exec.specs.Bodies.{IsKnown, task_in, Runs}
@@ -51,8 +51,8 @@ module _ (tasks : List Task) (plan : List PlanItem) (legal : IsLegal tasks plan)
       item_may_come =
           let t = x.job.task in
           let r = p.stands.releases t next.from_one next.in_set in
-          let a : (release_of m.releases t).number ≡ (last_release no_release t (take k plan)).number = ap (λ (y : Release). y.number) r in
-          let b : (release_of m.releases t).arrival ≡ (last_release no_release t (take k plan)).arrival = ap (λ (y : Release). y.arrival) r in
+          let a : (release_of m.releases t).number ≡ (last_release no_release t (take k plan)).number = ap (λ (y : LastJob). y.number) r in
+          let b : (release_of m.releases t).arrival ≡ (last_release no_release t (take k plan)).arrival = ap (λ (y : LastJob). y.arrival) r in
           record {
             number = let n = last_number m.tasks (take k plan) p.legal t in let q = next.number in omega arith;
             apart = λ some.

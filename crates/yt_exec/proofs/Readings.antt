@@ -7,11 +7,11 @@ use Rattle.yt_set.specs.declared.task.Task.{Task}
 use Rattle.yt_set.specs.Tasks.{IsTaskSet, IsTask, floor_of, within}
 use Rattle.yt_log.specs.declared.job.Job.{Job}
 use Rattle.yt_log.specs.Tasks.{no_task, task_of}
-use Rattle.yt_log.proofs.Demands.{task_of-suc}
-use Rattle.yt_log.proofs.Floors.{floor_none}
-use Rattle.yt_log.proofs.Ticks.{done-zero}
+use Rattle.yt_log.proofs.Lemmas.{task_of-suc}
+use Rattle.yt_log.proofs.Lemmas.{floor_none}
+use Rattle.yt_log.proofs.Lemmas.{done-zero}
 use Rattle.yt_ready.specs.declared.entry.Entry.{Entry}
-use Rattle.yt_ready.specs.Waiting.{HasOneMore}
+use Rattle.yt_order.specs.Falling.{HasOneMore}
 use Rattle.yt_exec.specs.Moments.{Moment, no_release, release_of, released}
 use Rattle.yt_exec.specs.StandsFor.{last_release, StandsFor}
 use Rattle.yt_exec.proofs.Sounds.{floor_within}

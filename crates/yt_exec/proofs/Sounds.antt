@@ -9,13 +9,13 @@ use Rattle.yt_set.specs.Tasks.{IsTaskSet, floor_of, within}
 use Rattle.yt_log.specs.declared.job.Job.{Job}
 use Rattle.yt_log.specs.Tasks.{task_of}
 use Rattle.yt_log.specs.EdfDdm.{lowered}
-use Rattle.yt_log.proofs.Demands.{has_task}
-use Rattle.yt_log.proofs.Floors.{floor_at, floor_some, floor_least}
+use Rattle.yt_log.proofs.Lemmas.{has_task}
+use Rattle.yt_log.proofs.Lemmas.{floor_at, floor_some, floor_least}
 use Rattle.yt_ready.specs.declared.entry.Entry.{Entry}
 use Rattle.yt_ready.specs.Order.{comes_before, IsLeast}
-use Rattle.yt_ready.specs.Waiting.{HasOneMore}
-use Rattle.yt_ready.proofs.Orders.{no_later, begun_first}
-use Rattle.yt_exec.specs.declared.executive.Release.{Release}
+use Rattle.yt_order.specs.Falling.{HasOneMore}
+use Rattle.yt_ready.proofs.Lemmas.{no_later, begun_first}
+use Rattle.yt_log.specs.declared.last_jobs.LastJob.{LastJob}
 use Rattle.yt_exec.specs.Bodies.{IsKnown, task_in}
 use Rattle.yt_exec.specs.Moments.{no_release, release_of, job_in, resource_in, released, after_tick, IsSound}
 
@@ -49,7 +49,7 @@ floor_within tasks n floor a b some e =
     let l = floor_least tasks task.resource (within task) task has refl in
     omega arith
 
-module _ (tasks : List Task) (entries : List Entry) (now : ℕ) (releases : List Release) (sound : IsSound tasks entries now releases) where
+module _ (tasks : List Task) (entries : List Entry) (now : ℕ) (releases : List LastJob) (sound : IsSound tasks entries now releases) where
   -- a job that is released is a new one
   pub released_fresh : (job : Job) → job.number ≡ (release_of releases job.task).number + 1 → Contains entries (released tasks now job) → ⊥
   released_fresh job next has = let l = sound.released (released tasks now job) has in omega arith
@@ -176,10 +176,10 @@ module _ (tasks : List Task) (entries : List Entry) (now : ℕ) (releases : List
 
   -- one job more
   module _ (job : Job) (known : IsKnown tasks job) (next : job.number ≡ (release_of releases job.task).number + 1) (more : List Entry) (put : HasOneMore entries (released tasks now job) more) where
-    new : Release
+    new : LastJob
     new = record { number = job.number; arrival = now }
 
-    after : List Release
+    after : List LastJob
     after = set releases (job.task - 1) new
 
     -- the releases after this one
@@ -199,12 +199,12 @@ module _ (tasks : List Task) (entries : List Entry) (now : ℕ) (releases : List
         ⊎_elim
         (λ (e : x.task ≡ job.task).
         let r : release_of after x.task ≡ new = ap (release_of after) e ∙ release_same in
-        let n : (release_of after x.task).number ≡ job.number = ap (λ (y : Release). y.number) r in
+        let n : (release_of after x.task).number ≡ job.number = ap (λ (y : LastJob). y.number) r in
         let m : (release_of releases x.task).number ≡ (release_of releases job.task).number = ap (λ (y : ℕ). (release_of releases y).number) e in
         omega arith)
         (λ (ne : x.task ≡ job.task → ⊥).
         let r = release_other x.task (λ e. ne (omega arith)) in
-        let n : (release_of after x.task).number ≡ (release_of releases x.task).number = ap (λ (y : Release). y.number) r in
+        let n : (release_of after x.task).number ≡ (release_of releases x.task).number = ap (λ (y : LastJob). y.number) r in
         omega arith)
         (cases_eq x.task job.task)
 
@@ -214,11 +214,11 @@ module _ (tasks : List Task) (entries : List Entry) (now : ℕ) (releases : List
         ⊎_elim
         (λ (e : task - 1 ≡ job.task - 1).
         let r : release_of after task ≡ new = ap (λ (n : ℕ). get_or after n no_release) e ∙ release_same in
-        let n : (release_of after task).arrival ≡ now = ap (λ (y : Release). y.arrival) r in
+        let n : (release_of after task).arrival ≡ now = ap (λ (y : LastJob). y.arrival) r in
         omega arith)
         (λ (ne : task - 1 ≡ job.task - 1 → ⊥).
         let r = release_other task ne in
-        let n : (release_of after task).arrival ≡ (release_of releases task).arrival = ap (λ (y : Release). y.arrival) r in
+        let n : (release_of after task).arrival ≡ (release_of releases task).arrival = ap (λ (y : LastJob). y.arrival) r in
         let p = sound.past task in
         omega arith)
         (cases_eq (task - 1) (job.task - 1))
@@ -277,7 +277,7 @@ module _ (tasks : List Task) (entries : List Entry) (now : ℕ) (releases : List
     unfolding new
     more_released x has = ⊎_elim
         (λ (s : x ≡ released tasks now job).
-        let n : (release_of after job.task).number ≡ job.number = ap (λ (y : Release). y.number) release_same in
+        let n : (release_of after job.task).number ≡ job.number = ap (λ (y : LastJob). y.number) release_same in
         subst (λ (y : Entry). y.number ≤ (release_of after y.task).number) (sym s) (omega arith))
         (λ (h : Contains entries x). grows x h)
         (put.only x has)
@@ -312,7 +312,7 @@ sound_start tasks set' = record {
   clock = omega arith;
   known = λ x has. absurd (let b = has.1 in omega arith);
   released = λ x has. absurd (let b = has.1 in omega arith);
-  past = λ task. let e = none_released (length tasks) (task - 1) in let z : (release_of (replicate (length tasks) no_release) task).arrival ≡ 0 = ap (λ (y : Release). y.arrival) e in omega arith;
+  past = λ task. let e = none_released (length tasks) (task - 1) in let z : (release_of (replicate (length tasks) no_release) task).arrival ≡ 0 = ap (λ (y : LastJob). y.arrival) e in omega arith;
   one = λ a b ha hb same. absurd (let l = ha.1 in omega arith);
   held = λ a b ha hb begun not some same. absurd (let l = ha.1 in omega arith);
   near = λ a has begun floor e. absurd (let l = has.1 in omega arith);

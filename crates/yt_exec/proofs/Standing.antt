@@ -9,23 +9,23 @@ use Rattle.yt_log.specs.Tasks.{Has}
 use Rattle.yt_log.specs.Plan.{deadline_of, IsNext, IsLegal}
 use Rattle.yt_log.specs.Ticks.{Ticks, done, IsWaiting}
 use Rattle.yt_log.specs.EdfDdm.{choice, current_deadline, ComesFirst, IsEdfDdm}
-use Rattle.yt_log.proofs.Plans.{one_item, good_item}
-use Rattle.yt_log.proofs.Appends.{has_push}
-use Rattle.yt_log.proofs.Choices.{current_fresh}
-use Rattle.yt_log.proofs.Leasts.{rule_is_least}
-use Rattle.yt_log.proofs.Growing.{grows_online}
-use Rattle.yt_log.proofs.Costs.{costs_wait}
+use Rattle.yt_log.proofs.Lemmas.{one_item, good_item}
+use Rattle.yt_log.proofs.Lemmas.{has_push}
+use Rattle.yt_log.proofs.Lemmas.{current_fresh}
+use Rattle.yt_log.proofs.Lemmas.{rule_is_least}
+use Rattle.yt_log.proofs.Lemmas.{grows_online}
+use Rattle.yt_log.proofs.Lemmas.{costs_wait}
 use Rattle.yt_ready.specs.declared.entry.Entry.{Entry}
 use Rattle.yt_ready.specs.Order.{comes_before, IsLeast}
-use Rattle.yt_ready.specs.Waiting.{HasOneMore}
-use Rattle.yt_exec.specs.declared.executive.Release.{Release}
+use Rattle.yt_order.specs.Falling.{HasOneMore}
+use Rattle.yt_log.specs.declared.last_jobs.LastJob.{LastJob}
 use Rattle.yt_exec.specs.Bodies.{IsKnown, task_in, KeepsOthers}
 use Rattle.yt_exec.specs.Moments.{Moment, no_release, release_of, job_in, released, after_tick, IsNextJob, IsSound}
 use Rattle.yt_exec.specs.StandsFor.{entry_of, last_release, StandsFor, GoesOn, item_at, with_cost}
 use Rattle.yt_exec.proofs.Changes.{changed, changed_job, changed_arrival, changed_yes, changed_no, job_or_not, has_with, has_from, releases_with, legal_with, like_with}
 use Rattle.yt_exec.proofs.LongerLogs.{done_ran, done_else, entry_not, entry_else, entry_ran, same_order}
 use Rattle.yt_exec.proofs.Releases.{IsUpTo, last_number, last_latest, push_yes, push_no}
-use Rattle.yt_log.proofs.Members.{has_last}
+use Rattle.yt_log.proofs.Lemmas.{has_last}
 
 some_other : (a b : Job) → (b ≡ a → ⊥) → Some a ≡ Some b → ⊥
 some_other a b ne e = ne (let h : a ≡ b = cc in sym h)
@@ -43,7 +43,7 @@ module _ (old : Moment) (left : Job → ℕ) (plan : List PlanItem) (log : Ticks
       let r = stands.releases i.job.task good.from_one good.in_set in
       let l = (last_latest old.tasks plan legal i.job.task i has refl).arrival in
       let p = sound.past i.job.task in
-      let a : (release_of old.releases i.job.task).arrival ≡ (last_release no_release i.job.task plan).arrival = ap (λ (x : Release). x.arrival) r in
+      let a : (release_of old.releases i.job.task).arrival ≡ (last_release no_release i.job.task plan).arrival = ap (λ (x : LastJob). x.arrival) r in
       let c = stands.clock in
       omega arith
 
@@ -66,7 +66,7 @@ module _ (old : Moment) (left : Job → ℕ) (plan : List PlanItem) (log : Ticks
         waiting = λ i has w. absurd (later i has w);
         only = λ e has. absurd (empty e has);
         clock = let l = length-append log (None ∷ []) in let c = stands.clock in omega arith;
-        releases = λ task a b. let n = ap length tasks in ap (λ (rs : List Release). release_of rs task) releases ∙ stands.releases task a (omega arith);
+        releases = λ task a b. let n = ap length tasks in ap (λ (rs : List LastJob). release_of rs task) releases ∙ stands.releases task a (omega arith);
         named = λ j begun. stands.named j (let d = done_else log None j (λ e. cc) in omega arith);
         costs = λ i has w begun. absurd (later i has w);
       };
@@ -208,7 +208,7 @@ module _ (old : Moment) (left : Job → ℕ) (plan : List PlanItem) (log : Ticks
         waiting = λ i has w. subst (λ (ts : List Task). Contains new.entries (entry_of ts longer i)) (sym tasks) (are.waiting i has w);
         only = λ x has. let o = are.only x has in (o.0, o.1.has, o.1.waiting, o.1.entry ∙ ap (λ (ts : List Task). entry_of ts longer o.0) (sym tasks));
         clock = let l = length-append log (Some (job_in e) ∷ []) in let c = stands.clock in omega arith;
-        releases = λ task a b. let n = ap length tasks in ap (λ (rs : List Release). release_of rs task) releases ∙ stands.releases task a (omega arith);
+        releases = λ task a b. let n = ap length tasks in ap (λ (rs : List LastJob). release_of rs task) releases ∙ stands.releases task a (omega arith);
         named = λ j begun. ⊎_elim
             (λ (same : item.0.job ≡ j). (item.0, item.1.has, same))
             (λ (ne : item.0.job ≡ j → ⊥). stands.named j (let d = done_else log (Some (job_in e)) j (some_other (job_in e) j (λ q. ne (item.1.job ∙ sym q))) in omega arith))
@@ -338,12 +338,12 @@ module _ (old : Moment) (left : Job → ℕ) (plan : List PlanItem) (log : Ticks
     last_is = stands.releases job.task known.0 known.1
 
     earlier : (e : PlanItem) → Has plan e → e.job.task ≡ job.task → IsUpTo e (release_of old.releases job.task)
-    earlier e has same = subst (λ (r : Release). IsUpTo e r) (sym last_is) (last_latest old.tasks plan legal job.task e has same)
+    earlier e has same = subst (λ (r : LastJob). IsUpTo e r) (sym last_is) (last_latest old.tasks plan legal job.task e has same)
 
     is_next : IsNext old.tasks plan (item_at old.clock job cost)
     is_next =
         let n = last_number old.tasks plan legal job.task in
-        let a : (release_of old.releases job.task).number ≡ (last_release no_release job.task plan).number = ap (λ (x : Release). x.number) last_is in
+        let a : (release_of old.releases job.task).number ≡ (last_release no_release job.task plan).number = ap (λ (x : LastJob). x.number) last_is in
         let c = stands.clock in
         record {
           from_one = known.0;
@@ -381,11 +381,11 @@ module _ (old : Moment) (left : Job → ℕ) (plan : List PlanItem) (log : Ticks
 
     releases_after : (task : ℕ) → 1 ≤ task → task ≤ length old.tasks → release_of new.releases task ≡ last_release no_release task (plan ++ item_at old.clock job cost ∷ [])
     releases_after task a b =
-        let r : Release = record { number = job.number; arrival = old.clock } in
+        let r : LastJob = record { number = job.number; arrival = old.clock } in
         let l = sound.long in
         let k : job.task ≤ length old.tasks = known.1 in
         let o : 1 ≤ job.task = known.0 in
-        ap (λ (rs : List Release). release_of rs task) releases ∙
+        ap (λ (rs : List LastJob). release_of rs task) releases ∙
         ⊎_elim
         (λ (e : job.task ≡ task).
         ap (λ (n : ℕ). get_or (set old.releases (job.task - 1) r) (n - 1) no_release) (sym e)

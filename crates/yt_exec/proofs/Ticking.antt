@@ -9,14 +9,14 @@ use Rattle.yt_log.specs.Tasks.{Has}
 use Rattle.yt_log.specs.Plan.{IsLegal}
 use Rattle.yt_log.specs.Ticks.{Ticks, done}
 use Rattle.yt_log.specs.EdfDdm.{IsEdfDdm}
-use Rattle.yt_log.proofs.Plans.{one_item}
+use Rattle.yt_log.proofs.Lemmas.{one_item}
 use Rattle.yt_ready.specs.declared.entry.Entry.{Entry}
 use Rattle.yt_ready.specs.Order.{IsLeast}
-use Rattle.yt_ready.specs.Waiting.{HasOneMore}
+use Rattle.yt_order.specs.Falling.{HasOneMore}
 use Rattle.yt_exec.specs.Bodies.{IsKnown, IsFree, task_in, GivesTick, MayStillBegin}
 use Rattle.yt_exec.specs.Moments.{Moment, job_in, after_tick, IsSound}
 use Rattle.yt_exec.specs.StandsFor.{entry_of, StandsFor, GoesOn, IsBodyOf, with_cost}
-use Rattle.yt_log.proofs.Jobs.{cases_job}
+use Rattle.yt_log.proofs.Lemmas.{cases_job}
 use Rattle.yt_exec.proofs.LongerLogs.{entry_begun, entry_not}
 use Rattle.yt_exec.proofs.Sounds.{resource_free}
 use Rattle.yt_exec.proofs.Standing.{ended_stands, goes_on_stands, with_stands, with_legal, with_rule, with_right}

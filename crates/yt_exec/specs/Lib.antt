@@ -1,4 +1,5 @@
 pub mod Bodies
 pub mod Counting
+pub mod Limits
 pub mod Moments
 pub mod StandsFor

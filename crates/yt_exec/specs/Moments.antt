@@ -7,7 +7,7 @@ use Rattle.yt_log.specs.declared.job.Job.{Job}
 use Rattle.yt_log.specs.Tasks.{task_of}
 use Rattle.yt_log.specs.EdfDdm.{lowered}
 use Rattle.yt_ready.specs.declared.entry.Entry.{Entry}
-use Rattle.yt_exec.specs.declared.executive.Release.{Release}
+use Rattle.yt_log.specs.declared.last_jobs.LastJob.{LastJob}
 use Rattle.yt_exec.specs.Bodies.{IsKnown, task_in}
 
 -- the set; the waiting jobs, and how many more there is room for; the tick that comes next; and the last release of each task, of which the number is 0 where there was none
@@ -16,14 +16,14 @@ pub record Moment : Type 0 where
   pub entries : List Entry
   pub spare : ℕ
   pub clock : ℕ
-  pub releases : List Release
+  pub releases : List LastJob
 
 -- what stands for the last release of a task that had none
-abbrev pub no_release : Release
+abbrev pub no_release : LastJob
 no_release = record { number = 0; arrival = 0 }
 
 -- the last release of a task
-abbrev pub release_of : List Release → ℕ → Release
+abbrev pub release_of : List LastJob → ℕ → LastJob
 release_of releases task = slice_index_or releases (task - 1) no_release
 
 -- an executive of a set, with room for so many jobs, before anything happened
@@ -54,7 +54,7 @@ after_tick tasks t entry =
     record entry { deadline = if entry.begun then entry.deadline else lowered entry.deadline t (floor_of tasks (resource_in tasks entry)); begun = true }
 
 -- what stays true of an executive: each job is known and was released; no two entries are of one job; a begun job comes before those that wait for its resource, since its deadline is no later than theirs, nor than the floor from now on
-pub record IsSound (tasks : List Task) (entries : List Entry) (now : ℕ) (releases : List Release) : Type 0 where
+pub record IsSound (tasks : List Task) (entries : List Entry) (now : ℕ) (releases : List LastJob) : Type 0 where
   pub set : IsTaskSet tasks
   pub long : length releases ≡ length tasks
   pub clock : now ≤ 2 ^ 63

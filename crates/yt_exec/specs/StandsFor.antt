@@ -10,7 +10,7 @@ use Rattle.yt_log.specs.Ticks.{Ticks, done, IsWaiting}
 use Rattle.yt_log.specs.EdfDdm.{current_deadline, IsEdfDdm}
 use Rattle.yt_ready.specs.declared.entry.Entry.{Entry}
 use Rattle.yt_ready.specs.Order.{IsLeast}
-use Rattle.yt_exec.specs.declared.executive.Release.{Release}
+use Rattle.yt_log.specs.declared.last_jobs.LastJob.{LastJob}
 use Rattle.yt_exec.specs.declared.executive.Ticked.{Ticked}
 use Rattle.yt_exec.specs.declared.executive.Ticked.TheVariants.{Idle, Ran}
 use Rattle.yt_exec.specs.Bodies.{task_in, Runs}
@@ -27,7 +27,7 @@ entry_of tasks log item = record {
 }
 
 -- the last release of a task after the items of a list, where it was `last` before them
-unfoldable pub last_release : Release → ℕ → List PlanItem → Release
+unfoldable pub last_release : LastJob → ℕ → List PlanItem → LastJob
 last_release last task [] = last
 last_release last task (item ∷ items) =
     last_release (if item.job.task == task then record { number = item.job.number; arrival = item.arrival } else last) task items

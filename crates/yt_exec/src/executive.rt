@@ -2,10 +2,11 @@
 ghost use Rattle.std.specs.Prelude.{◌≡◌, ◌↔◌, ℕ, ◌+◌, ◌-◌, ◌<◌, ◌≤◌, ◌^◌, Bool, true, false, List, [], length, map, slice_set, IfOk};
 ghost use Rattle.std.specs.List.{Contains};
 ghost use Rattle.yt_set.specs.declared.task.Task.{Task};
+ghost use Rattle.yt_set.specs.Limits.{most_ticks};
 ghost use Rattle.yt_set.specs.Tasks.{IsTaskSet, floor_of};
 ghost use Rattle.yt_log.specs.declared.job.Job.{Job};
 ghost use Rattle.yt_log.specs.EdfDdm.{lowered};
-ghost use Rattle.yt_ready.specs.Waiting.{HasOneMore};
+ghost use Rattle.yt_order.specs.Falling.{HasOneMore};
 ghost use Rattle.yt_exec.specs.Bodies.{GivesTick, IsFree, IsKnown, MayStillBegin, Runs};
 ghost use Rattle.yt_exec.specs.Moments.{after_tick, IsNextJob, job_in, released, resource_in, start};
 ghost use Rattle.yt_exec.specs.StandsFor.{GoesOnTo, GoesOnWith, IsBodyOf, IsTick, StandsFor};
@@ -13,16 +14,9 @@ ghost use Rattle.yt_exec.specs.StandsFor.{GoesOnTo, GoesOnWith, IsBodyOf, IsTick
 use crate::body::{Body, Turn};
 use std::alloc::{AllocError, Global};
 use std::marker::Model;
-use yt_log::Job;
+use yt_log::{Job, LastJob};
 use yt_ready::{Entry, Ready};
 use yt_set::{Task, TaskSet};
-
-/// The last release of a task: the job's number, 0 where there was none, and the tick.
-#[derive(Clone, Copy, Debug)]
-pub(crate) struct Release {
-    pub(crate) number: u32,
-    pub(crate) arrival: u64,
-}
 
 /// What became of a tick.
 #[derive(Clone, Copy, Debug, PartialEq, Eq)]
@@ -38,9 +32,9 @@ pub enum Ticked {
 #[derive(Drop)]
 pub struct Executive {
     tasks: Vec<Task>,
-    /// Of each task, the floor of its resource.
+    /// Of each task, the deadline floor of its resource.
     floors: Vec<Option<u64>>,
-    releases: Vec<Release>,
+    releases: Vec<LastJob>,
     ready: Ready,
     clock: u64,
 }
@@ -67,7 +61,7 @@ impl Executive {
     {
         let tasks = tasks_of(alloc, set)?;
         let floors = floors_of(alloc, set, &tasks)?;
-        let none = Release {
+        let none = LastJob {
             number: 0,
             arrival: 0,
         };
@@ -112,7 +106,7 @@ impl Executive {
     {
         let place = job.task as usize - 1;
         let deadline = self.clock + self.tasks[place].period;
-        self.releases[place] = Release {
+        self.releases[place] = LastJob {
             number: job.number,
             arrival: self.clock,
         };
@@ -168,7 +162,7 @@ fn job_of(entry: Entry) -> Job
 #[tactic(auto, unfolding(yt_log::specs::EdfDdm::lowered))]
 fn after_tick(entry: Entry, tick: u64, floor: Option<u64>) -> Entry
     requires clock { tick < 2 ^ 63 }
-    requires floor { (f : ℕ) → floor ≡ Some f → f ≤ 1000000 }
+    requires floor { (f : ℕ) → floor ≡ Some f → f ≤ most_ticks }
     ensures { (tasks : List Task) → floor_of tasks (resource_in tasks entry) ≡ floor → result ≡ after_tick tasks tick entry }
 {
     let deadline = match floor {

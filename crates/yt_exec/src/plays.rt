@@ -4,6 +4,7 @@ ghost use Rattle.yt_log.specs.declared.plan.PlanItem.{PlanItem};
 ghost use Rattle.yt_log.specs.Plan.{IsLegal};
 ghost use Rattle.yt_log.specs.EdfDdm.{edf_ddm};
 ghost use Rattle.yt_log.specs.Laws.{IsSafe};
+ghost use Rattle.yt_exec.specs.Limits.{most_played};
 ghost use Rattle.yt_exec.specs.Counting.{IsPlaying};
 ghost use Rattle.yt_exec.specs.StandsFor.{job_run};
 
@@ -74,11 +75,11 @@ fn job_of(ticked: Ticked) -> Option<Job>
 }
 
 /// The log of the first `upto` ticks of a plan's jobs, missed deadlines or not, whatever the set. The caller shows that the plan is
-/// legal, and that there are at most 9,000,000 ticks. Takes constant time for each tick, and the logarithm of the waiting jobs for
-/// each item. `Err` comes where memory ran out.
+/// legal, and that there are at most 9,000,000 ticks. Takes constant time for each tick, and for each item as many
+/// comparisons as the waiting jobs can be halved and a move of those that come before it. `Err` comes where memory ran out.
 pub fn play(alloc: Global, set: &TaskSet, plan: &Plan, upto: u64) -> Result<Log, AllocError>
     requires legal { IsLegal set.now plan.now }
-    requires upto { upto ≤ 9000000 }
+    requires upto { upto ≤ most_played }
     ensures rule { IfOk result (λ log. log ≡ edf_ddm set.now plan.now upto) }
     ensures safe { IfOk result (λ log. IsSafe set.now plan.now log) }
 {

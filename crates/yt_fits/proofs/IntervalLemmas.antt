@@ -8,10 +8,10 @@ use Rattle.std.proofs.lemmas.Option.{get_or_from_slice_get, slice_get_within}
 use Rattle.std.proofs.Math.Nat.{div-eq_of_lt, div-eq_of_lt-le, div-mul-le_self}
 use Rattle.std.specs.List.{All, fold, reduce, sum_by}
 use Rattle.yt_set.specs.declared.task.Task.{Task}
-use Rattle.yt_set.specs.Tasks.{FitsInterval, LeavesRoom, demand_bound, floor_of, jobs_due, users_of, within}
-use Rattle.yt_set.proofs.Hyperperiods.{HavePeriods, all_first, all_one, all_rest}
+use Rattle.yt_set.specs.Tasks.{FitsInterval, LacksRoom, LeavesRoom, need_of, demand_bound, floor_of, jobs_due, users_of, within}
+use Rattle.yt_set.proofs.Lemmas.{HavePeriods, all_first, all_one, all_rest}
 use Rattle.yt_fits.specs.declared.interval.Breach.{Breach}
-use Rattle.yt_fits.specs.Intervals.{HaveRoom, IsLowestBreach, LacksRoom, need_of}
+use Rattle.yt_fits.specs.Intervals.{HaveRoom, IsLowestBreach}
 use Rattle.yt_fits.proofs.MultipleLemmas.{take_next}
 
 -- what holds of two numbers holds of the lesser, and so of the least of many
@@ -152,23 +152,10 @@ room_next tasks span n task at before here =
 
 -- where none lacks room, each leaves it
 pub fits_from_room : (tasks : List Task) → ((span : ℕ) → HaveRoom tasks span tasks) → FitsInterval tasks
-fits_from_room tasks rooms = λ k d lt floor span is above below.
-    let task = slice_index_or tasks k d in
-    ⊎_elim
-    (λ (over : span < need_of tasks task span). absurd (rooms span k d lt (subst (λ o. IsSomeAnd o (λ n. n < span)) (sym is) above, below, over)))
-    (λ (fine : need_of tasks task span ≤ span). fine)
-    (cases_lt span (need_of tasks task span))
-
--- a task that lacks room leaves none
-lacks_leaves : (tasks : List Task) (span : ℕ) (task : Task) → LacksRoom tasks span task → LeavesRoom tasks task → ⊥
-lacks_leaves tasks span task lacks leaves = by (floor_of tasks task.resource) refl lacks.0
-  where
-    by : (o : Option ℕ) → floor_of tasks task.resource ≡ o → IsSomeAnd o (λ n. n < span) → ⊥
-    by None is h = h
-    by (Some n) is h = let fine = leaves n span is h lacks.1 in let over = lacks.2 in omega arith
+fits_from_room tasks rooms = λ k d lt span lacks. rooms span k d lt lacks
 
 pub breach_unfits : (tasks : List Task) (breach : Breach) → IsLowestBreach tasks breach → FitsInterval tasks → ⊥
 breach_unfits tasks breach is fits =
     let n = breach.task - 1 in
     let leaves = subst (LeavesRoom tasks) (get_or_from_slice_get tasks n is.task is.task is.there) (fits n is.task (slice_get_within tasks n is.task is.there)) in
-    lacks_leaves tasks breach.len is.task is.lacks leaves
+    leaves breach.len is.lacks

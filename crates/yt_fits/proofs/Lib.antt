@@ -1,3 +1,4 @@
-pub mod IntervalLemmas
-pub mod LoadLemmas
-pub mod MultipleLemmas
+pub mod Lemmas
+mod IntervalLemmas
+mod LoadLemmas
+mod MultipleLemmas

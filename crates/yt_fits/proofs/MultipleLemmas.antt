@@ -10,8 +10,8 @@ use Rattle.std.specs.Int.{◌∣◌}
 use Rattle.yt_fits.specs.Loads.{most_multiple}
 use Rattle.yt_set.specs.declared.task.Task.{Task}
 use Rattle.yt_set.specs.Tasks.{IsTaskSet, lcm, hyperperiod}
-use Rattle.yt_set.proofs.Hyperperiods.{least_from, multiple_more, periods_of}
-use Rattle.yt_set.proofs.Multiples.{lcm_is}
+use Rattle.yt_set.proofs.Lemmas.{least_from, multiple_more, periods_of}
+use Rattle.yt_set.proofs.Lemmas.{lcm_is}
 
 -- what divides a number above 0 is above 0
 pub divisor_some : (g n : ℕ) → g ∣ n → 1 ≤ n → 0 < g

@@ -1,8 +1,7 @@
 -- What is asked for in the spans of a worked set, by computing.
 use Rattle.std.specs.Prelude.{◌≡◌, ℕ, List, [], ◌∷◌, Some}
 use Rattle.yt_set.specs.declared.task.Task.{Task}
-use Rattle.yt_set.specs.Tasks.{floor_of}
-use Rattle.yt_fits.specs.Intervals.{need_of}
+use Rattle.yt_set.specs.Tasks.{floor_of, need_of}
 
 abbrev pub task : ℕ → ℕ → ℕ → Task
 task cost period resource = record { cost = cost; period = period; resource = resource }

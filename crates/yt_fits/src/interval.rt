@@ -1,8 +1,9 @@
 //! The condition on tasks under resources.
 ghost use Rattle.std.specs.Prelude.{◌≡◌, ◌+◌, ◌-◌, ◌*◌, ◌/◌, ◌<◌, ◌≤◌, ◌↔◌, None, IfSome, IsTrue, length};
 ghost use Rattle.std.specs.List.{All};
-ghost use Rattle.yt_set.specs.Tasks.{FitsInterval, demand_bound};
-ghost use Rattle.yt_fits.specs.Intervals.{HaveRoom, IsFirstBreach, IsLowestBreach, LacksRoom};
+ghost use Rattle.yt_set.specs.Limits.{most_tasks, most_ticks};
+ghost use Rattle.yt_set.specs.Tasks.{FitsInterval, LacksRoom, demand_bound};
+ghost use Rattle.yt_fits.specs.Intervals.{HaveRoom, IsFirstBreach, IsLowestBreach};
 
 use yt_set::{Task, TaskSet};
 
@@ -41,7 +42,7 @@ pub fn interval_plain(set: &TaskSet) -> Option<Breach>
 /// The longest period of a task under a resource; 0 where no task is.
 fn longest(set: &TaskSet) -> u64
     ensures longest { All (λ task. 1 ≤ task.resource → task.period ≤ result) set.now }
-    ensures bound { result ≤ 1000000 }
+    ensures bound { result ≤ most_ticks }
 {
     let mut longest = 0;
     for n in 0..set.len() {
@@ -56,7 +57,7 @@ fn longest(set: &TaskSet) -> u64
 /// The lowest task that lacks room in a span.
 fn breach_in(set: &TaskSet, span: u64) -> Option<Breach>
     requires positive { 1 ≤ span }
-    requires short { span ≤ 1000000 }
+    requires short { span ≤ most_ticks }
     ensures span { IfSome result (λ breach. breach.len ≡ span) }
     ensures some { IfSome result (λ breach. IsLowestBreach set.now breach) }
     ensures none { result ≡ None → HaveRoom set.now span set.now }
@@ -79,7 +80,7 @@ fn breach_in(set: &TaskSet, span: u64) -> Option<Breach>
 fn lacks_room(set: &TaskSet, span: u64, demand: u64, task: Task) -> bool
     requires demand { demand ≡ demand_bound set.now (span - 1) }
     requires small { demand ≤ 64000000000000 }
-    requires cheap { task.cost ≤ 1000000 }
+    requires cheap { task.cost ≤ most_ticks }
     ensures { IsTrue result ↔ LacksRoom set.now span task }
 {
     span < task.period
@@ -89,7 +90,7 @@ fn lacks_room(set: &TaskSet, span: u64, demand: u64, task: Task) -> bool
 
 /// The demand of so many ticks.
 fn demand(set: &TaskSet, ticks: u64) -> u64
-    requires { ticks ≤ 1000000 }
+    requires { ticks ≤ most_ticks }
     ensures value { result ≡ demand_bound set.now ticks }
     ensures bound { result ≤ 64000000000000 }
 {
@@ -103,8 +104,8 @@ fn demand(set: &TaskSet, ticks: u64) -> u64
 /// What the jobs of a task cost that can arrive and be due within so many ticks.
 fn cost_due(task: Task, ticks: u64) -> u64
     requires positive { 1 ≤ task.period }
-    requires cheap { task.cost ≤ 1000000 }
-    requires short { ticks ≤ 1000000 }
+    requires cheap { task.cost ≤ most_ticks }
+    requires short { ticks ≤ most_ticks }
     ensures value { result ≡ ticks / task.period * task.cost }
     ensures bound { result ≤ 1000000000000 }
 {
@@ -114,7 +115,7 @@ fn cost_due(task: Task, ticks: u64) -> u64
 /// The least multiple of a period behind a tick, or the end where none comes before it.
 fn next_point(set: &TaskSet, point: u64, end: u64) -> u64
     requires before { point < end }
-    requires short { end ≤ 1000000 }
+    requires short { end ≤ most_ticks }
     ensures later { point < result }
     ensures end { result ≤ end }
     ensures first { All (λ task. result ≤ (point / task.period + 1) * task.period) set.now }
@@ -129,8 +130,8 @@ fn next_point(set: &TaskSet, point: u64, end: u64) -> u64
 /// The least multiple of a period behind a tick.
 fn multiple_behind(period: u64, point: u64) -> u64
     requires positive { 1 ≤ period }
-    requires short { period ≤ 1000000 }
-    requires point { point ≤ 1000000 }
+    requires short { period ≤ most_ticks }
+    requires point { point ≤ most_ticks }
     ensures value { result ≡ (point / period + 1) * period }
     ensures later { point < result }
 {

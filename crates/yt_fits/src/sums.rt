@@ -1,5 +1,6 @@
 //! The load of a set over its hyperperiod.
 ghost use Rattle.std.specs.Prelude.{◌≡◌, ◌*◌, ◌/◌, ◌<◌, ◌≤◌, IfOk, IfErr};
+ghost use Rattle.yt_set.specs.Limits.{most_ticks};
 ghost use Rattle.yt_set.specs.Tasks.{hyperperiod, load};
 ghost use Rattle.yt_fits.specs.Loads.{IsFirstWide, load_sum, most_multiple};
 
@@ -72,9 +73,9 @@ fn part(set: &TaskSet, whole: u128) -> u128
 fn cost_in(task: Task, ticks: u128) -> u128
     requires positive { 1 ≤ task.period }
     requires small { ticks ≤ most_multiple }
-    requires cheap { task.cost ≤ 1000000 }
+    requires cheap { task.cost ≤ most_ticks }
     ensures value { result ≡ task.cost * (ticks / task.period) }
-    ensures bound { result ≤ 1000000 * most_multiple }
+    ensures bound { result ≤ most_ticks * most_multiple }
 {
     u128::from(task.cost) * (ticks / u128::from(task.period))
 }

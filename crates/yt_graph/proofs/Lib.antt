@@ -1,6 +1,7 @@
-pub mod AstPictures
+mod AstPictures
 mod Examples
-pub mod Lengths
-pub mod Pictures
-pub mod Wrapping
-pub mod Within
+pub mod Lemmas
+mod Lengths
+mod Pictures
+mod Wrapping
+mod Within

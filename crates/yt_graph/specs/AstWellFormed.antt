@@ -8,6 +8,7 @@ use Rattle.yt_graph.specs.declared.ast.Source as source
 use Rattle.yt_graph.specs.declared.ast.Source.{Source}
 use Rattle.yt_graph.specs.declared.ast.OutDecl.{OutDecl}
 use Rattle.yt_graph.specs.AstPicture.{AstExprTree, number, name, minus, negation, two_sides, paren, call_of, AstExprsTree, no_values, more_values, AstStmtTree, let_local, assign, send_on, when_only, when_else, turns, AstBlockTree, no_stmts, more_stmts, PortDeclTree, ItemTree, input, output, resource, process}
+use Rattle.yt_graph.specs.Limits.{most_expr_depth, most_block_depth}
 use Rattle.yt_graph.specs.Names.{is_name}
 
 -- a word that may name something
@@ -55,7 +56,7 @@ abbrev mutual
 
 -- an expression that is no deeper than 32
 abbrev pub IsWritableValue : AstExprTree → Type 0
-IsWritableValue e = (ast_expr_depth e ≤ 32) × IsWritableExpr e
+IsWritableValue e = (ast_expr_depth e ≤ most_expr_depth) × IsWritableExpr e
 
 -- how many blocks stand in each other inside a statement or a block
 abbrev mutual
@@ -75,7 +76,7 @@ abbrev mutual
   pub IsWritableStmt : AstStmtTree → Type 0
   IsWritableStmt (let_local w e) = IsName w × IsWritableValue e
   IsWritableStmt (assign w e) = IsName w × IsWritableValue e
-  IsWritableStmt (send_on w es) = IsName w × (ast_exprs_depth es ≤ 32) × AreWritableExprs es
+  IsWritableStmt (send_on w es) = IsName w × (ast_exprs_depth es ≤ most_expr_depth) × AreWritableExprs es
   IsWritableStmt (when_only e first) = IsWritableValue e × IsWritableBlock first
   IsWritableStmt (when_else e first second) = IsWritableValue e × IsWritableBlock first × IsWritableBlock second
   IsWritableStmt (turns e most body) = IsWritableValue e × IsWrittenNumber most.value × IsWritableBlock body
@@ -99,7 +100,7 @@ abbrev pub IsWritableOut : OutDecl → Type 0
 IsWritableOut o = IsName o.name × IsWrittenNumber o.width.value × IsWritableEvery o.every
 
 abbrev pub IsWritablePort : PortDeclTree → Type 0
-IsWritablePort p = IsName p.name × IsWritableSource p.source × All IsName p.params × All IsWritableOut p.outs × (1 + ast_block_depth p.body ≤ 8) × IsWritableBlock p.body
+IsWritablePort p = IsName p.name × IsWritableSource p.source × All IsName p.params × All IsWritableOut p.outs × (1 + ast_block_depth p.body ≤ most_block_depth) × IsWritableBlock p.body
 
 abbrev pub IsWritableInside : Option Word → Type 0
 IsWritableInside None = Unit {0}

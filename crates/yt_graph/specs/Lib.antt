@@ -1,4 +1,6 @@
+pub mod Limits
 pub mod AstPicture
+pub mod ItemNames
 pub mod AstWellFormed
 pub mod AstParts
 pub mod Picture
@@ -8,3 +10,4 @@ pub mod Meaning
 pub mod Cost
 pub mod Reserved
 pub mod Names
+pub mod Labels

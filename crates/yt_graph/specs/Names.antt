@@ -1,6 +1,7 @@
 -- Words that may name something.
 use Rattle.std.specs.Prelude.{ℕ, ◌==◌, ◌&&◌, ◌||◌, not, nat_le, Bool, false, List, [], ◌∷◌, length}
 use Rattle.std.specs.List.{list_all}
+use Rattle.yt_graph.specs.Limits.{most_name_bytes}
 use Rattle.yt_graph.specs.Reserved.{is_reserved}
 
 -- an ASCII letter or `_`
@@ -21,4 +22,4 @@ begins_as_word (c ∷ cs) = is_letter c
 
 -- a word that may name something: at most 32 letters, digits and `_`, no digit first, and not reserved
 abbrev pub is_name : List ℕ → Bool
-is_name word = begins_as_word word && (list_all is_word_byte word && (nat_le (length word) 32 && not (is_reserved word)))
+is_name word = begins_as_word word && (list_all is_word_byte word && (nat_le (length word) most_name_bytes && not (is_reserved word)))

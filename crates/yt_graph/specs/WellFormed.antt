@@ -1,6 +1,7 @@
 -- When a graph is well formed: its names differ, its numbers name things that are there, and all is within its limits.
 use Rattle.std.specs.Prelude.{◌≡◌, ℕ, zero, suc, ◌+◌, ◌<◌, ◌≤◌, ◌-◌, max, Bool, true, false, ◌&&◌, ◌||◌, IsTrue, List, [], ◌∷◌, ◌++◌, length, map, slice_get, bytes_eq, IsSomeAnd}
 use Rattle.std.specs.List.{All, list_any}
+use Rattle.yt_graph.specs.Limits.{most_inputs, most_outputs, most_groups, most_ports, most_vars, most_outs, most_locals, most_width, most_period, most_every, most_turns, most_op_args, most_op_ticks, most_op_code, most_expr_depth, most_block_depth}
 use Rattle.yt_graph.specs.Names.{is_name}
 use Rattle.yt_graph.specs.declared.port.Feed as feed
 use Rattle.yt_graph.specs.declared.port.Feed.{Feed}
@@ -97,7 +98,7 @@ abbrev mutual
   IsFineExpr g p (neg e) = IsFineExpr g p e
   IsFineExpr g p (lnot e) = IsFineExpr g p e
   IsFineExpr g p (two op l r) = IsFineExpr g p l × IsFineExpr g p r
-  IsFineExpr g p (call op code ticks args) = (1 ≤ op) × IsWithin 1 5 code × IsWithin 1 1000 ticks × IsWithin 1 2 (exprs_count args) × AreFineExprs g p args
+  IsFineExpr g p (call op code ticks args) = (1 ≤ op) × IsWithin 1 most_op_code code × IsWithin 1 most_op_ticks ticks × IsWithin 1 most_op_args (exprs_count args) × AreFineExprs g p args
 
   pub AreFineExprs : GraphTree → PortTree → ExprsTree → Type 0
   AreFineExprs g p no_exprs = Unit {0}
@@ -105,10 +106,10 @@ abbrev mutual
 
 -- an expression of a port that is no deeper than 32
 abbrev pub IsFineValue : GraphTree → PortTree → ExprTree → Type 0
-IsFineValue g p e = (expr_depth e ≤ 32) × IsFineExpr g p e
+IsFineValue g p e = (expr_depth e ≤ most_expr_depth) × IsFineExpr g p e
 
 abbrev pub AreFineValues : GraphTree → PortTree → ExprsTree → Type 0
-AreFineValues g p es = (exprs_depth es ≤ 32) × AreFineExprs g p es
+AreFineValues g p es = (exprs_depth es ≤ most_expr_depth) × AreFineExprs g p es
 
 -- an out of a port, by its number from 1, with so many values
 abbrev pub IsOutOfWidth : PortTree → ℕ → ℕ → Type 0
@@ -122,7 +123,7 @@ abbrev mutual
   IsFineStmt g p (send out es) = IsOutOfWidth p out (exprs_count es) × AreFineValues g p es
   IsFineStmt g p (if_only e first) = IsFineValue g p e × IsFineBlock g p first
   IsFineStmt g p (if_else e first second) = IsFineValue g p e × IsFineBlock g p first × IsFineBlock g p second
-  IsFineStmt g p (repeat e most body) = IsFineValue g p e × IsWithin 1 10000 most × IsFineBlock g p body
+  IsFineStmt g p (repeat e most body) = IsFineValue g p e × IsWithin 1 most_turns most × IsFineBlock g p body
 
   pub IsFineBlock : GraphTree → PortTree → BlockTree → Type 0
   IsFineBlock g p empty = Unit {0}
@@ -138,7 +139,7 @@ IsFeedOfWidth g count (feed.TheVariants.Input n) = (a : ℕ) × (n ≡ suc a) ×
 IsFeedOfWidth g count (feed.TheVariants.Out port out) = IsOutAnd g port out (λ o. o.width ≡ count)
 
 abbrev pub IsFineOut : OutHead → Type 0
-IsFineOut o = IsTrue (is_name o.name) × (o.width ≤ 8) × IsWithin 1 1000 o.every
+IsFineOut o = IsTrue (is_name o.name) × (o.width ≤ most_width) × IsWithin 1 most_every o.every
 
 -- a port that uses a variable is under a resource that is there, and one that uses none is under none
 abbrev pub IsFineGroup : GraphTree → PortTree → Bool → Type 0
@@ -159,13 +160,13 @@ abbrev pub IsFinePort : GraphTree → PortTree → Type 0
 IsFinePort g p =
     IsTrue (is_name p.process) × IsTrue (is_name p.name)
     × IsFeedOfWidth g p.params p.feed × EndsWithin g (length g.ports) p.feed
-    × (p.params ≤ p.locals) × (p.locals ≤ 16)
-    × (length p.outs ≤ 8) × AreDifferent (map (λ o. o.name) p.outs) × All IsFineOut p.outs
-    × (block_depth p.body ≤ 8) × IsFineBlock g p p.body
+    × (p.params ≤ p.locals) × (p.locals ≤ most_locals)
+    × (length p.outs ≤ most_outs) × AreDifferent (map (λ o. o.name) p.outs) × All IsFineOut p.outs
+    × (block_depth p.body ≤ most_block_depth) × IsFineBlock g p p.body
     × IsFineGroup g p (block_uses_var p.body) × All (IsUnderOne p) g.ports
 
 abbrev pub IsFineInput : graph.Input.Input → Type 0
-IsFineInput i = IsTrue (is_name i.name) × (i.width ≤ 8) × IsWithin 1 1000000 i.period
+IsFineInput i = IsTrue (is_name i.name) × (i.width ≤ most_width) × IsWithin 1 most_period i.period
 
 abbrev pub IsFineOutput : GraphTree → graph.Output.Output → Type 0
 IsFineOutput g o = IsTrue (is_name o.name) × IsOutAnd g o.port o.out (λ _. Unit {0})
@@ -185,11 +186,11 @@ IsFineVar g v = IsTrue (is_name v.process) × IsTrue (is_name v.name) × (list_a
 
 -- a graph has at most 16 inputs and outputs each, 32 declared resources and 64 of processes, 256 variables and 64 ports
 pub record IsCounted (g : GraphTree) : Type 0 where
-  pub inputs : length g.inputs ≤ 16
-  pub outputs : length g.outputs ≤ 16
-  pub groups : length g.groups ≤ 96
-  pub vars : length g.vars ≤ 256
-  pub ports : length g.ports ≤ 64
+  pub inputs : length g.inputs ≤ most_inputs
+  pub outputs : length g.outputs ≤ most_outputs
+  pub groups : length g.groups ≤ most_groups
+  pub vars : length g.vars ≤ most_vars
+  pub ports : length g.ports ≤ most_ports
 
 pub record IsWellFormed (g : GraphTree) : Type 0 where
   pub counts : IsCounted g

@@ -14,6 +14,8 @@ mod expr;
 mod graph;
 mod handled;
 mod laws;
+mod limits;
+mod named;
 mod names;
 mod operator;
 mod parts;
@@ -34,7 +36,11 @@ pub use expr::{Expr, Exprs, Op2, expr_call};
 pub use graph::{Graph, Input, Inputs, Output, Outputs, Var, Vars};
 pub use handled::{SendItem, Sends, Write};
 pub use laws::{sends_within_greatest, ticks_within_cost};
-pub use names::{is_letter, is_name, is_word_byte};
+pub use limits::{
+    MOST_EVERY, MOST_INPUTS, MOST_LOCALS, MOST_NAME_BYTES, MOST_OUTPUTS, MOST_OUTS, MOST_PERIOD,
+    MOST_PORTS, MOST_PROCESSES, MOST_RESOURCES, MOST_TURNS, MOST_VARS, MOST_WIDTH,
+};
+pub use names::{is_digit, is_letter, is_name, is_word_byte};
 pub use operator::OpHead;
 pub use parts::{ExprParts, Parts, open, open_expr};
 pub use place::Place;

@@ -113,53 +113,64 @@ fn stores_and_reads(rt: HostRuntime) -> Result<(), Fail> {
     Ok(())
 }
 
-#[test]
-fn gives_the_values_of_operators(rt: HostRuntime) -> Result<(), Fail> {
-    for (op, x, y, want) in [
-        (Op2::Or, 0, 0, 0),
-        (Op2::Or, 0, -3, 1),
-        (Op2::Or, 2, 0, 1),
-        (Op2::And, 2, -1, 1),
-        (Op2::And, 2, 0, 0),
-        (Op2::Lt, -1, 0, 1),
-        (Op2::Lt, 0, 0, 0),
-        (Op2::Le, 0, 0, 1),
-        (Op2::Le, 1, 0, 0),
-        (Op2::Gt, 1, 0, 1),
-        (Op2::Gt, 0, 0, 0),
-        (Op2::Ge, 0, 0, 1),
-        (Op2::Ge, -1, 0, 0),
-        (Op2::Eq, 3, 3, 1),
-        (Op2::Eq, 3, 4, 0),
-        (Op2::Ne, 3, 3, 0),
-        (Op2::Ne, 3, 4, 1),
-        (Op2::Add, 2, 3, 5),
-        (Op2::Add, i64::MAX, 1, i64::MIN),
-        (Op2::Sub, 2, 3, -1),
-        (Op2::Sub, i64::MIN, 1, i64::MAX),
-        (Op2::Mul, -4, 3, -12),
-        (Op2::Mul, i64::MAX, 2, -2),
-        (Op2::Div, 7, -2, -3),
-        (Op2::Div, -7, 2, -3),
-        (Op2::Div, 7, 0, 0),
-        (Op2::Div, i64::MIN, -1, i64::MIN),
-        (Op2::Rem, 7, -2, 1),
-        (Op2::Rem, -7, 2, -1),
-        (Op2::Rem, -7, -2, -1),
-        (Op2::Rem, 7, 0, 0),
-        (Op2::Rem, i64::MIN, -1, 0),
-    ] {
-        let handler = operation(rt.alloc(), op, x, y)?;
+/// An operator, its left side, its right side, and its value.
+const OPERATORS: &[(Op2, i64, i64, i64)] = &[
+    (Op2::Or, 0, 0, 0),
+    (Op2::Or, 0, -3, 1),
+    (Op2::Or, 2, 0, 1),
+    (Op2::And, 2, -1, 1),
+    (Op2::And, 2, 0, 0),
+    (Op2::Lt, -1, 0, 1),
+    (Op2::Lt, 0, 0, 0),
+    (Op2::Le, 0, 0, 1),
+    (Op2::Le, 1, 0, 0),
+    (Op2::Gt, 1, 0, 1),
+    (Op2::Gt, 0, 0, 0),
+    (Op2::Ge, 0, 0, 1),
+    (Op2::Ge, -1, 0, 0),
+    (Op2::Eq, 3, 3, 1),
+    (Op2::Eq, 3, 4, 0),
+    (Op2::Ne, 3, 3, 0),
+    (Op2::Ne, 3, 4, 1),
+    (Op2::Add, 2, 3, 5),
+    (Op2::Add, i64::MAX, 1, i64::MIN),
+    (Op2::Sub, 2, 3, -1),
+    (Op2::Sub, i64::MIN, 1, i64::MAX),
+    (Op2::Mul, -4, 3, -12),
+    (Op2::Mul, i64::MAX, 2, -2),
+    (Op2::Div, 7, -2, -3),
+    (Op2::Div, -7, 2, -3),
+    (Op2::Div, 7, 0, 0),
+    (Op2::Div, i64::MIN, -1, i64::MIN),
+    (Op2::Rem, 7, -2, 1),
+    (Op2::Rem, -7, 2, -1),
+    (Op2::Rem, -7, -2, -1),
+    (Op2::Rem, 7, 0, 0),
+    (Op2::Rem, i64::MIN, -1, 0),
+];
+
+/// Checks each operator's value.
+fn judge_operators(
+    rt: &(impl Abort + AllocGlobal),
+    rows: &[(Op2, i64, i64, i64)],
+) -> Result<(), Fail> {
+    for (op, x, y, want) in rows {
+        let handler = operation(rt.alloc(), *op, *x, *y)?;
         let mut machine = Machine::new();
         let mut vars = [99];
         machine.begin(&handler, &[]);
         assert_eq!(rt;
-            run(&mut machine, &handler, &mut vars, &mut Sent::new(&rt)),
+            run(&mut machine, &handler, &mut vars, &mut Sent::new(rt)),
             5
         );
-        assert_eq!(rt; vars, [want], "{op:?} of {x} and {y}");
+        assert_eq!(rt; vars, [*want], "{op:?} of {x} and {y}");
     }
     Ok(())
+}
+
+#[test]
+fn gives_the_values_of_operators(rt: HostRuntime) -> Result<(), Fail> {
+    judge_operators(&rt, OPERATORS)
 }
 
 #[test]

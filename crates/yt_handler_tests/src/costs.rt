@@ -7,6 +7,7 @@ use crate::graphs::{lone, pair};
 use crate::nested::{Inner, Nested, ONE, handler};
 use crate::trees::{alone, both, sends};
 use std::alloc::{AllocError, Global};
+use std::process::Abort;
 use std::test::Fail;
 use yt_code::Instr;
 use yt_cost::{CostFault, compile};
@@ -77,7 +78,7 @@ fn judged(alloc: Global, first: Nested, second: Nested) -> Result<Answer, Fail> 
     }
 }
 
-const ROWS: [Row; 14] = [
+const ROWS: &[Row] = &[
     Row {
         first: ONE,
         second: ONE,
@@ -222,11 +223,15 @@ const ROWS: [Row; 14] = [
     },
 ];
 
-#[test]
-fn answers_are_those_of_the_limits(rt: HostRuntime) -> Result<(), Fail> {
-    let alloc = rt.alloc();
-    for row in &ROWS {
-        assert_eq!(rt; judged(alloc, row.first, row.second)?, row.wanted);
+// Checks each row.
+fn judge(rt: &(impl Abort + AllocGlobal), rows: &[Row]) -> Result<(), Fail> {
+    for row in rows {
+        assert_eq!(rt; judged(rt.alloc(), row.first, row.second)?, row.wanted);
     }
     Ok(())
+}
+
+#[test]
+fn answers_are_those_of_the_limits(rt: HostRuntime) -> Result<(), Fail> {
+    judge(&rt, ROWS)
 }

@@ -37,7 +37,7 @@ fn executed<R: Abort>(rt: &R, alloc: Global, nested: Nested, message: i64) -> Re
 }
 
 /// An operator, its right side, its left side, and its value.
-const VALUES: [(Op2, i64, i64, i64); 20] = [
+const VALUES: &[(Op2, i64, i64, i64)] = &[
     (Op2::Add, 1, i64::MAX, i64::MIN),
     (Op2::Sub, 1, i64::MIN, i64::MAX),
     (Op2::Mul, 2, i64::MAX, -2),
@@ -60,19 +60,26 @@ const VALUES: [(Op2, i64, i64, i64); 20] = [
     (Op2::And, 0, -2, 0),
 ];
 
-#[test]
-fn operators_have_their_values(rt: HostRuntime) -> Result<(), Fail> {
-    let alloc = rt.alloc();
-    for (op, right, left, wanted) in &VALUES {
+/// Checks each operator's value.
+fn judge_values(
+    rt: &(impl Abort + AllocGlobal),
+    rows: &[(Op2, i64, i64, i64)],
+) -> Result<(), Fail> {
+    for (op, right, left, wanted) in rows {
         let nested = Nested {
             inner: Inner::Value(*op, *right),
             turns: &[],
         };
-        let done = executed(&rt, alloc, nested, *left)?;
+        let done = executed(rt, rt.alloc(), nested, *left)?;
         assert_eq!(rt; done.ticks, 5);
         assert_eq!(rt; done.ones.as_slice(), [*wanted].as_slice());
     }
     Ok(())
+}
+
+#[test]
+fn operators_have_their_values(rt: HostRuntime) -> Result<(), Fail> {
+    judge_values(&rt, VALUES)
 }
 
 /// A handler and its message, the ticks that it takes, and what it sends.
@@ -83,7 +90,7 @@ struct Row {
     ones: &'static [i64],
 }
 
-const ROWS: [Row; 11] = [
+const ROWS: &[Row] = &[
     Row {
         nested: Nested {
             inner: Inner::Send,
@@ -185,15 +192,19 @@ const ROWS: [Row; 11] = [
     },
 ];
 
-#[test]
-fn handlers_take_their_turns_and_branches(rt: HostRuntime) -> Result<(), Fail> {
-    let alloc = rt.alloc();
-    for row in &ROWS {
-        let done = executed(&rt, alloc, row.nested, row.message)?;
+/// Checks what each handler leaves.
+fn judge(rt: &(impl Abort + AllocGlobal), rows: &[Row]) -> Result<(), Fail> {
+    for row in rows {
+        let done = executed(rt, rt.alloc(), row.nested, row.message)?;
         assert_eq!(rt; done.ticks, row.ticks);
         assert_eq!(rt; done.ones.as_slice(), row.ones);
     }
     Ok(())
+}
+
+#[test]
+fn handlers_take_their_turns_and_branches(rt: HostRuntime) -> Result<(), Fail> {
+    judge(&rt, ROWS)
 }
 
 #[test]

@@ -7,6 +7,7 @@ ghost use Rattle.yt_handler_tests.specs.Graphs.{IsPlainValue, IsLone};
 use crate::graphs::lone;
 use crate::trees::{alone, both, counts, sends};
 use std::alloc::{AllocError, Global};
+use std::process::Abort;
 use std::test::Fail;
 use yt_graph::{Block, Expr, Graph, Op2, Stmt, expr_call, stmt_if, stmt_if_else, stmt_repeat};
 use yt_mean::{Handled, handle};
@@ -44,74 +45,94 @@ fn sent(alloc: Global, e: Expr) -> Result<(i64, u64), Fail>
     }
 }
 
+/// An operator, its left side, its right side, and its value.
+const OPERATORS: &[(Op2, i64, i64, i64)] = &[
+    (Op2::Add, MOST, 1, LEAST),
+    (Op2::Add, LEAST, -1, MOST),
+    (Op2::Sub, LEAST, 1, MOST),
+    (Op2::Sub, MOST, -1, LEAST),
+    (Op2::Mul, 3, -4, -12),
+    (Op2::Mul, MOST, 2, -2),
+    (Op2::Mul, LEAST, -1, LEAST),
+    (Op2::Div, 7, 0, 0),
+    (Op2::Div, LEAST, 0, 0),
+    (Op2::Div, LEAST, -1, LEAST),
+    (Op2::Div, -7, 2, -3),
+    (Op2::Div, 7, -2, -3),
+    (Op2::Div, -7, -2, 3),
+    (Op2::Rem, 7, 0, 0),
+    (Op2::Rem, LEAST, 0, 0),
+    (Op2::Rem, LEAST, -1, 0),
+    (Op2::Rem, -7, 2, -1),
+    (Op2::Rem, 7, -2, 1),
+    (Op2::Rem, -7, -2, -1),
+    (Op2::Lt, LEAST, MOST, 1),
+    (Op2::Lt, 2, 2, 0),
+    (Op2::Le, 2, 2, 1),
+    (Op2::Le, 3, 2, 0),
+    (Op2::Gt, 3, 2, 1),
+    (Op2::Gt, 2, 2, 0),
+    (Op2::Ge, 2, 2, 1),
+    (Op2::Ge, LEAST, MOST, 0),
+    (Op2::Eq, -5, -5, 1),
+    (Op2::Eq, LEAST, MOST, 0),
+    (Op2::Ne, -5, 5, 1),
+    (Op2::Ne, -5, -5, 0),
+    (Op2::And, -1, 2, 1),
+    (Op2::And, -1, 0, 0),
+    (Op2::And, 0, 2, 0),
+    (Op2::Or, 0, -5, 1),
+    (Op2::Or, -5, 0, 1),
+    (Op2::Or, 0, 0, 0),
+];
+
+/// Checks each operator's value.
+fn judge_operators(
+    rt: &(impl Abort + AllocGlobal),
+    rows: &[(Op2, i64, i64, i64)],
+) -> Result<(), Fail> {
+    let alloc = rt.alloc();
+    for (op, x, y, value) in rows {
+        // Two numbers and the operator: 1 + 1 + 1, and 2.
+        let e = both(alloc, *op, Expr::Num(*x), Expr::Num(*y))?;
+        assert_eq!(rt; sent(alloc, e)?, (*value, 5), "{op:?} of {x} and {y}");
+    }
+    Ok(())
+}
+
 #[test]
 fn operators_have_their_values(rt: HostRuntime) -> Result<(), Fail> {
+    judge_operators(&rt, OPERATORS)
+}
+
+/// A number, its negative, and whether it is 0.
+const ONE_SIDE: &[(i64, i64, i64)] = &[
+    (5, -5, 0),
+    (-5, 5, 0),
+    (0, 0, 1),
+    (MOST, -MOST, 0),
+    (LEAST, LEAST, 0),
+];
+
+/// Checks what is done to each number.
+fn judge_one_side(rt: &(impl Abort + AllocGlobal), rows: &[(i64, i64, i64)]) -> Result<(), Fail> {
     let alloc = rt.alloc();
-    for (op, x, y, value) in [
-        (Op2::Add, MOST, 1, LEAST),
-        (Op2::Add, LEAST, -1, MOST),
-        (Op2::Sub, LEAST, 1, MOST),
-        (Op2::Sub, MOST, -1, LEAST),
-        (Op2::Mul, 3, -4, -12),
-        (Op2::Mul, MOST, 2, -2),
-        (Op2::Mul, LEAST, -1, LEAST),
-        (Op2::Div, 7, 0, 0),
-        (Op2::Div, LEAST, 0, 0),
-        (Op2::Div, LEAST, -1, LEAST),
-        (Op2::Div, -7, 2, -3),
-        (Op2::Div, 7, -2, -3),
-        (Op2::Div, -7, -2, 3),
-        (Op2::Rem, 7, 0, 0),
-        (Op2::Rem, LEAST, 0, 0),
-        (Op2::Rem, LEAST, -1, 0),
-        (Op2::Rem, -7, 2, -1),
-        (Op2::Rem, 7, -2, 1),
-        (Op2::Rem, -7, -2, -1),
-        (Op2::Lt, LEAST, MOST, 1),
-        (Op2::Lt, 2, 2, 0),
-        (Op2::Le, 2, 2, 1),
-        (Op2::Le, 3, 2, 0),
-        (Op2::Gt, 3, 2, 1),
-        (Op2::Gt, 2, 2, 0),
-        (Op2::Ge, 2, 2, 1),
-        (Op2::Ge, LEAST, MOST, 0),
-        (Op2::Eq, -5, -5, 1),
-        (Op2::Eq, LEAST, MOST, 0),
-        (Op2::Ne, -5, 5, 1),
-        (Op2::Ne, -5, -5, 0),
-        (Op2::And, -1, 2, 1),
-        (Op2::And, -1, 0, 0),
-        (Op2::And, 0, 2, 0),
-        (Op2::Or, 0, -5, 1),
-        (Op2::Or, -5, 0, 1),
-        (Op2::Or, 0, 0, 0),
-    ] {
-        // Two numbers and the operator: 1 + 1 + 1, and 2.
-        let e = both(alloc, op, Expr::Num(x), Expr::Num(y))?;
-        assert_eq!(rt; sent(alloc, e)?, (value, 5), "{op:?} of {x} and {y}");
+    for (x, negative, negated) in rows {
+        // A number and what is done to it: 1 + 1, and 2.
+        let e = Expr::Neg(Box::new(alloc, Expr::Num(*x))?);
+        assert_eq!(rt; sent(alloc, e)?, (*negative, 4), "the sign of {x}");
+        let e = Expr::Not(Box::new(alloc, Expr::Num(*x))?);
+        assert_eq!(rt; sent(alloc, e)?, (*negated, 4), "not {x}");
     }
     Ok(())
 }
 
 #[test]
 fn one_side_has_its_values(rt: HostRuntime) -> Result<(), Fail> {
-    let alloc = rt.alloc();
-    for (x, negative, negated) in [
-        (5, -5, 0),
-        (-5, 5, 0),
-        (0, 0, 1),
-        (MOST, -MOST, 0),
-        (LEAST, LEAST, 0),
-    ] {
-        // A number and what is done to it: 1 + 1, and 2.
-        let e = Expr::Neg(Box::new(alloc, Expr::Num(x))?);
-        assert_eq!(rt; sent(alloc, e)?, (negative, 4), "the sign of {x}");
-        let e = Expr::Not(Box::new(alloc, Expr::Num(x))?);
-        assert_eq!(rt; sent(alloc, e)?, (negated, 4), "not {x}");
-    }
+    judge_one_side(&rt, ONE_SIDE)?;
     // The parameter, and a local that was not set: 1, and 2.
-    assert_eq!(rt; sent(alloc, Expr::Local(0))?, (7, 3));
-    assert_eq!(rt; sent(alloc, Expr::Local(1))?, (0, 3));
+    assert_eq!(rt; sent(rt.alloc(), Expr::Local(0))?, (7, 3));
+    assert_eq!(rt; sent(rt.alloc(), Expr::Local(1))?, (0, 3));
     Ok(())
 }
 

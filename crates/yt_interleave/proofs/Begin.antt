@@ -14,11 +14,12 @@ use Rattle.yt_log.specs.declared.plan.PlanItem.{PlanItem}
 use Rattle.yt_log.specs.Plan.{jobs_of}
 use Rattle.yt_log.specs.Tasks.{Has}
 use Rattle.yt_log.specs.Ticks.{done}
-use Rattle.yt_log.proofs.Appends.{has_push, jobs_push_same, jobs_push_other}
+use Rattle.yt_log.proofs.Lemmas.{has_push, jobs_push_same, jobs_push_other}
 use Rattle.yt_rates.specs.Faults.{IsWithinRates}
 use Rattle.yt_cost.specs.CodeAlone.{written_before}
 use Rattle.yt_serial.specs.declared.trace.Message.{Message}
-use Rattle.yt_serial.specs.PortMessages.{PortMessage, numbered}
+use Rattle.yt_serial.specs.PortMessages.{PortMessage}
+use Rattle.yt_list.specs.Numbered.{numbered}
 use Rattle.yt_serial.specs.SerialHandling.{Handled, Serial, messages_at, items_of, handled_of, brought, placed, start, handle_message, serial_step}
 use Rattle.yt_serial.specs.Traces.{KeepsPeriods}
 use Rattle.yt_serial.proofs.Lemmas.{Holds, placed_at, port_there, numbered_left, serial_holds, run_push, step_of, writes_of_push_other, writes_of_push_same, writes_below_more}
@@ -28,7 +29,7 @@ use Rattle.yt_serial.specs.Variables.{after_writes}
 use Rattle.yt_interleave.specs.Moves.{MayBegin}
 use Rattle.yt_interleave.proofs.HandlerWrites.{IsWritten, handling_written, written_none, after_writes-length, kept_after, kept_or_written}
 use Rattle.yt_interleave.proofs.Pieces.{put_same, put_other, put_cases, placed_twice, to_come_begun}
-use Rattle.yt_log.proofs.Members.{has_left, has_last}
+use Rattle.yt_log.proofs.Lemmas.{has_left, has_last}
 use Rattle.yt_interleave.proofs.Sharing.{shared}
 
 has_item : (hs : List Handled) (z : Handled) → Has hs z → Has (map (λ (h : Handled). h.item) hs) z.item

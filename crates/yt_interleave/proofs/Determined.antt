@@ -12,16 +12,17 @@ use Rattle.yt_log.specs.declared.plan.PlanItem.{PlanItem}
 use Rattle.yt_graph.specs.declared.handled.Write.{Write}
 use Rattle.yt_log.specs.Tasks.{Has}
 use Rattle.yt_log.specs.Ticks.{Ticks, tick, done}
-use Rattle.yt_log.proofs.Ticks.{done_grows}
+use Rattle.yt_log.proofs.Lemmas.{done_grows}
 use Rattle.yt_serial.specs.declared.shown.OutLine.{OutLine}
 use Rattle.yt_serial.specs.declared.trace.Message.{Message}
 use Rattle.yt_serial.specs.Premises.{IsSchedulable}
-use Rattle.yt_serial.specs.PortMessages.{PortMessage, numbered}
+use Rattle.yt_serial.specs.PortMessages.{PortMessage}
+use Rattle.yt_list.specs.Numbered.{numbered}
 use Rattle.yt_serial.specs.Beginnings.{order_of}
 use Rattle.yt_serial.specs.SerialHandling.{Serial, messages_at, items_of, brought, start, serial_run, plan_of_log, handled_along}
 use Rattle.yt_serial.specs.Told.{IsPromisedRun}
 use Rattle.yt_serial.specs.Variables.{after_writes, variables_at, writes_below}
-use Rattle.yt_log.proofs.Made.{Agree, done_same}
+use Rattle.yt_log.proofs.Lemmas.{Agree, done_same}
 use Rattle.yt_serial.proofs.Lemmas.{IsRuleRun, agree_to, feed_cases, get_cases, placed_at, port_there, promised_is, at_tick, begun_same, in_plan, no_more, serial_holds, variables_stay, writes_below_same, writes_idle}
 use Rattle.yt_interleave.specs.Interleaved as own
 use Rattle.yt_interleave.specs.Interleaved.{ActiveJob, passes_of}

@@ -11,7 +11,8 @@ use Rattle.yt_log.specs.Tasks.{Has}
 use Rattle.yt_log.specs.Ticks.{done}
 use Rattle.yt_cost.specs.CodeAlone.{written_before}
 use Rattle.yt_serial.specs.declared.trace.Message.{Message}
-use Rattle.yt_serial.specs.PortMessages.{PortMessage, numbered}
+use Rattle.yt_serial.specs.PortMessages.{PortMessage}
+use Rattle.yt_list.specs.Numbered.{numbered}
 use Rattle.yt_serial.specs.SerialHandling.{Serial, items_of, brought}
 use Rattle.yt_serial.proofs.Lemmas.{placed_at, placed-length, port_there, numbered_left}
 use Rattle.yt_interleave.specs.Interleaved.{ActiveJob, RunState, port_at, Uses, value_at, whole_of, item_of, passes_of, known_at, put, to_come, with_end, IsActiveJob, IsInUse, IsEndedOrActive, MatchesSerial}

@@ -12,15 +12,17 @@ use Rattle.yt_log.specs.declared.plan.PlanItem.{PlanItem}
 use Rattle.yt_log.specs.Tasks as numbers
 use Rattle.yt_log.specs.Tasks.{Has}
 use Rattle.yt_log.specs.Ticks.{Ticks, done, IsWaiting}
-use Rattle.yt_log.proofs.Plans.{one_item, good_item}
+use Rattle.yt_log.proofs.Lemmas.{one_item, good_item}
 use Rattle.yt_ready.specs.declared.entry.Entry.{Entry}
 use Rattle.yt_exec.specs.Moments.{Moment, job_in}
 use Rattle.yt_exec.specs.StandsFor.{StandsFor, entry_of}
 use Rattle.yt_rates.specs.Tables.{task_of, tasks_of}
 use Rattle.yt_serial.specs.declared.shown.OutLine.{OutLine}
 use Rattle.yt_serial.specs.declared.trace.Message.{Message}
-use Rattle.yt_serial.specs.PortMessages.{PortMessage, numbered}
-use Rattle.yt_serial.specs.SerialHandling.{Serial, messages_at, items_of, handled_of, no_port}
+use Rattle.yt_serial.specs.PortMessages.{PortMessage}
+use Rattle.yt_list.specs.Numbered.{numbered}
+use Rattle.yt_serial.specs.SerialHandling.{Serial, messages_at, items_of, handled_of}
+use Rattle.yt_graph.specs.Labels.{no_port}
 use Rattle.yt_interleave.specs.Executives.{HasLeft, AllReleased, ExecutivesFollow}
 use Rattle.yt_interleave.specs.Interleaved as own
 use Rattle.yt_interleave.specs.Interleaved.{ActiveJob, port_at, group_at, known_at, to_come, put, whole_of, item_of, with_begun, with_tick, with_end}

@@ -13,8 +13,8 @@ use Rattle.yt_code.specs.Step.{State, Tick, instruction_step}
 use Rattle.yt_code.specs.Valid.{Program}
 use Rattle.yt_cost.specs.CodeAlone.{Progress, Advance, with_tick, advance, tick_alone, going, ticks_alone, begin_alone, written, written_before, Does, MeansPort}
 use Rattle.yt_cost.specs.CodeVars.{block_vars, instrs_vars, AgreeAt, ChangesOnlyAt, IsSameAt, AreSameAt, ChangesAtMost, UsesVarsOf}
-use Rattle.yt_cost.proofs.CodeKeeps.{keeps}
-use Rattle.yt_cost.proofs.CodeLogs.{next_tick}
+use Rattle.yt_cost.proofs.Lemmas.{keeps}
+use Rattle.yt_cost.proofs.Lemmas.{next_tick}
 use Rattle.yt_log.specs.declared.job.Job.{Job}
 use Rattle.yt_log.specs.Ticks.{done}
 use Rattle.yt_serial.specs.declared.trace.Message.{Message}

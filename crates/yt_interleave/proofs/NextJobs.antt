@@ -8,16 +8,17 @@ use Rattle.yt_log.specs.declared.job.Job.{Job}
 use Rattle.yt_log.specs.declared.plan.PlanItem.{PlanItem}
 use Rattle.yt_log.specs.Plan.{jobs_of, IsLegalAfter, IsLegal}
 use Rattle.yt_log.specs.Tasks.{Has, task_of}
-use Rattle.yt_log.proofs.Appends.{jobs_none}
-use Rattle.yt_log.proofs.Plans.{jobs_of-cons}
-use Rattle.yt_exec.specs.declared.executive.Release.{Release}
+use Rattle.yt_log.proofs.Lemmas.{jobs_none}
+use Rattle.yt_log.proofs.Lemmas.{jobs_of-cons}
+use Rattle.yt_log.specs.declared.last_jobs.LastJob.{LastJob}
 use Rattle.yt_exec.specs.Moments.{Moment, no_release, release_of, IsNextJob}
 use Rattle.yt_exec.specs.StandsFor.{StandsFor, last_release}
 use Rattle.yt_rates.specs.Rates.{period_of}
 use Rattle.yt_rates.specs.Tables.{tasks_of}
 use Rattle.yt_serial.specs.declared.shown.OutLine.{OutLine}
 use Rattle.yt_serial.specs.declared.trace.Message.{Message}
-use Rattle.yt_serial.specs.PortMessages.{PortMessage, numbered}
+use Rattle.yt_serial.specs.PortMessages.{PortMessage}
+use Rattle.yt_list.specs.Numbered.{numbered}
 use Rattle.yt_serial.specs.SerialHandling.{Serial}
 use Rattle.yt_interleave.specs.Interleaved as own
 use Rattle.yt_interleave.specs.Interleaved.{known_at}
@@ -46,34 +47,34 @@ number_le tasks before (x ∷ items) legal z has =
     has
 
 -- the last release of a task after the items of a legal plan: it has as its number how many there are, and is that of the item
-record IsLastOf (task : ℕ) (count : ℕ) (items : List PlanItem) (last result : Release) : Type 0 where
+record IsLastOf (task : ℕ) (count : ℕ) (items : List PlanItem) (last result : LastJob) : Type 0 where
   number : result.number ≡ count
   item : ((jobs_of task items ≡ 0) × (result ≡ last)) ⊎ ((z : PlanItem) × (Has items z) × (z.job ≡ nth_job task result.number) × (z.arrival ≡ result.arrival))
 
-last-cons : (last : Release) (task : ℕ) (x : PlanItem) (items : List PlanItem)
+last-cons : (last : LastJob) (task : ℕ) (x : PlanItem) (items : List PlanItem)
     → last_release last task (x ∷ items) ≡ last_release (cond (eqb x.job.task task) (record { number = x.job.number; arrival = x.arrival }) last) task items
 unfolding last_release
 last-cons last task x items = refl
 
-last_none : (last : Release) (task : ℕ) → last_release last task [] ≡ last
+last_none : (last : LastJob) (task : ℕ) → last_release last task [] ≡ last
 unfolding last_release
 last_none last task = refl
 
-last_of : (tasks : List Task) (before items : List PlanItem) (last : Release) (task : ℕ) → IsLegalAfter tasks before items → last.number ≡ jobs_of task before
+last_of : (tasks : List Task) (before items : List PlanItem) (last : LastJob) (task : ℕ) → IsLegalAfter tasks before items → last.number ≡ jobs_of task before
     → IsLastOf task (jobs_of task before + jobs_of task items) items last (last_release last task items)
 last_of tasks before [] last task legal is =
     let e = last_none last task in
     let z = jobs_none task in
-    record { number = let n = ap (λ (r : Release). r.number) e in omega arith; item = inl (z, e) }
+    record { number = let n = ap (λ (r : LastJob). r.number) e in omega arith; item = inl (z, e) }
 last_of tasks before (x ∷ items) last task legal is =
     let a = jobs_of-cons task x before in
     let b = jobs_of-cons task x items in
     ⊎_elim
     (λ (e : x.job.task ≡ task).
     let one : cond {A = ℕ} (eqb x.job.task task) 1 0 ≡ 1 = cond-true (eqb x.job.task task) 1 0 (eq-eqb x.job.task task e) in
-    let new : Release = record { number = x.job.number; arrival = x.arrival } in
+    let new : LastJob = record { number = x.job.number; arrival = x.arrival } in
     let here : last_release last task (x ∷ items) ≡ last_release new task items =
-    last-cons last task x items ∙ ap (λ (r : Release). last_release r task items) (cond-true (eqb x.job.task task) new last (eq-eqb x.job.task task e)) in
+    last-cons last task x items ∙ ap (λ (r : LastJob). last_release r task items) (cond-true (eqb x.job.task task) new last (eq-eqb x.job.task task e)) in
     let n = legal.0.number in
     let m : jobs_of x.job.task before ≡ jobs_of task before = ap (λ (t : ℕ). jobs_of t before) e in
     let rest = last_of tasks (x ∷ before) items new task legal.1 (omega arith) in
@@ -82,8 +83,8 @@ last_of tasks before (x ∷ items) last task legal is =
       number = omega arith;
       item = ⊎_elim
           (λ (k : (jobs_of task items ≡ 0) × (last_release new task items ≡ new)).
-          let rn = ap (λ (r : Release). r.number) k.1 in
-          let ra = ap (λ (r : Release). r.arrival) k.1 in
+          let rn = ap (λ (r : LastJob). r.number) k.1 in
+          let ra = ap (λ (r : LastJob). r.arrival) k.1 in
           inr (x, inl refl, ap (λ (t : ℕ). nth_job t x.job.number) e ∙ ap (nth_job task) (sym rn), sym ra))
           (λ (k : (z : PlanItem) × (Has items z) × (z.job ≡ nth_job task (last_release new task items).number) × (z.arrival ≡ (last_release new task items).arrival)).
           inr (k.0, inr k.1, k.2, k.3))
@@ -91,9 +92,9 @@ last_of tasks before (x ∷ items) last task legal is =
     }))
     (λ (ne : x.job.task ≡ task → ⊥).
     let none : cond {A = ℕ} (eqb x.job.task task) 1 0 ≡ 0 = cond-false (eqb x.job.task task) 1 0 (ne_eqb x.job.task task ne) in
-    let new : Release = record { number = x.job.number; arrival = x.arrival } in
+    let new : LastJob = record { number = x.job.number; arrival = x.arrival } in
     let here : last_release last task (x ∷ items) ≡ last_release last task items =
-    last-cons last task x items ∙ ap (λ (r : Release). last_release r task items) (cond-false (eqb x.job.task task) new last (ne_eqb x.job.task task ne)) in
+    last-cons last task x items ∙ ap (λ (r : LastJob). last_release r task items) (cond-false (eqb x.job.task task) new last (ne_eqb x.job.task task ne)) in
     let rest = last_of tasks (x ∷ before) items last task legal.1 (omega arith) in
     let number = rest.number in
     subst (IsLastOf task (jobs_of task before + jobs_of task (x ∷ items)) (x ∷ items) last) (sym here) (record {
@@ -110,7 +111,7 @@ module _ (g : GraphTree) (trace : List Message) (able : IsSchedulable g trace) (
     (is : IsRunning g trace s r (length r.log) plan lines) (moment : Moment) (left : Job → ℕ) (wider : List PlanItem) (tasks : moment.tasks ≡ tasks_of g) (stands : StandsFor moment left wider r.log)
     (legal : IsLegal (tasks_of g) wider) (port n : ℕ) (m : PortMessage) (there : numbered (known_at r port) n ≡ Some m) (now : m.time ≡ length r.log)
     (into : (z : PlanItem) → Has plan z → Has wider z) (back : (z : PlanItem) → Has wider z → z.job.task ≡ port → Has plan z) where
-  last : Release
+  last : LastJob
   last = last_release no_release port wider
 
   is_last : IsLastOf port (jobs_of port [] + jobs_of port wider) wider no_release (last_release no_release port wider)
@@ -184,14 +185,14 @@ next_job g trace able s r plan lines is moment left wider tasks stands legal por
     let long : length moment.tasks ≡ length (tasks_of g) = ap length tasks in
     let released : release_of moment.releases port ≡ last_release no_release port wider = stands.releases port range.0 (let h = range.1 in omega arith) in
     let count = count_is g trace able s r plan lines is moment left wider tasks stands legal port n m there now into back in
-    let number = ap (λ (x : Release). x.number) released in
-    let arrival = ap (λ (x : Release). x.arrival) released in
+    let number = ap (λ (x : LastJob). x.number) released in
+    let arrival = ap (λ (x : LastJob). x.arrival) released in
     let clock = stands.clock in
     let period : (task_of moment.tasks port).period ≡ period_of g p.0 = ap (λ (ts : List Task). (task_of ts port).period) tasks ∙ ap (λ (t : Task). t.period) range.2 in
     record {
       number = omega arith;
       apart = λ some. ⊎_elim
-          (λ (k : (jobs_of port wider ≡ 0) × (last_release no_release port wider ≡ no_release)). let e = ap (λ (x : Release). x.number) k.1 in absurd (omega arith))
+          (λ (k : (jobs_of port wider ≡ 0) × (last_release no_release port wider ≡ no_release)). let e = ap (λ (x : LastJob). x.number) k.1 in absurd (omega arith))
           (λ (k : (z : PlanItem) × (Has wider z) × (z.job ≡ nth_job port (last_release no_release port wider).number) × (z.arrival ≡ (last_release no_release port wider).arrival)).
           let h = (last_item g trace able s r plan lines is moment left wider tasks stands legal port n m there now into back k.0 k.1 k.2).1 in
           let a = k.3 in

@@ -12,12 +12,13 @@ use Rattle.yt_log.specs.declared.plan.PlanItem.{PlanItem}
 use Rattle.yt_log.specs.Patterns.{item_before}
 use Rattle.yt_log.specs.Tasks.{Has}
 use Rattle.yt_log.specs.Ticks.{Ticks, done, first_tick}
-use Rattle.yt_log.proofs.Members.{has_sorted, sorted_has}
-use Rattle.yt_log.proofs.Plans.{good_item}
-use Rattle.yt_log.proofs.Ticks.{first_is, first_stays}
+use Rattle.yt_log.proofs.Lemmas.{has_sorted, sorted_has}
+use Rattle.yt_log.proofs.Lemmas.{good_item}
+use Rattle.yt_log.proofs.Lemmas.{first_is, first_stays}
 use Rattle.yt_serial.specs.declared.trace.Message.{Message}
 use Rattle.yt_serial.specs.Beginnings.{begun_below, order_of, nth_job}
-use Rattle.yt_serial.specs.PortMessages.{PortMessage, numbered}
+use Rattle.yt_serial.specs.PortMessages.{PortMessage}
+use Rattle.yt_list.specs.Numbered.{numbered}
 use Rattle.yt_serial.specs.SerialHandling.{Handled, Serial, messages_at, items_of, start, port_of, serial_step, serial_run, plan_of, plan_of_log}
 use Rattle.yt_serial.specs.Told.{AllHandled, BeginsInOrder}
 use Rattle.yt_serial.proofs.Lemmas.{begun_below-append, plans_are_legal, port_there, numbered_apart, stepped, writes_below_more, writes_below_prefix, goes_on, run_rest, numbered_within}

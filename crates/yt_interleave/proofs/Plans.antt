@@ -7,21 +7,23 @@ use Rattle.yt_graph.specs.Picture.{GraphTree, PortTree}
 use Rattle.yt_set.specs.declared.task.Task.{Task}
 use Rattle.yt_log.specs.declared.job.Job.{Job}
 use Rattle.yt_log.specs.declared.plan.PlanItem.{PlanItem}
-use Rattle.yt_log.specs.EdfDdm.{rank, least, waits, choice, IsEdfDdm, precedes}
+use Rattle.yt_log.specs.EdfDdm.{rank, least, waits, choice, IsEdfDdm}
+use Rattle.yt_order.specs.Words.{precedes}
 use Rattle.yt_log.specs.Plan.{IsLegal}
 use Rattle.yt_log.specs.Tasks.{Has}
 use Rattle.yt_log.specs.Ticks.{Ticks, done, IsWaiting}
-use Rattle.yt_log.proofs.Choices.{IsLeast, least_is, waits_true, waits_from}
-use Rattle.yt_log.proofs.Leasts.{rule_is_least}
-use Rattle.yt_log.proofs.Appends.{has_push}
-use Rattle.yt_log.proofs.Plans.{one_item}
+use Rattle.yt_log.proofs.Lemmas.{IsLeast, least_is, waits_true, waits_from}
+use Rattle.yt_log.proofs.Lemmas.{rule_is_least}
+use Rattle.yt_log.proofs.Lemmas.{has_push}
+use Rattle.yt_log.proofs.Lemmas.{one_item}
 use Rattle.yt_exec.specs.StandsFor.{item_at, with_cost}
 use Rattle.yt_exec.proofs.Lemmas.{changed, changed_arrival, changed_is, changed_job, changed_no, has_from, has_with}
 use Rattle.yt_rates.specs.Rates.{period_of}
 use Rattle.yt_rates.specs.Tables.{tasks_of}
 use Rattle.yt_serial.specs.declared.trace.Message.{Message}
 use Rattle.yt_serial.specs.Beginnings.{order_of, nth_job}
-use Rattle.yt_serial.specs.PortMessages.{PortMessage, numbered}
+use Rattle.yt_serial.specs.PortMessages.{PortMessage}
+use Rattle.yt_list.specs.Numbered.{numbered}
 use Rattle.yt_serial.specs.SerialHandling.{Handled, Serial, items_of, brought, handle_message}
 use Rattle.yt_serial.proofs.Lemmas.{placed_at, placed-length, port_there, get_cases, numbered_left, length_push, numbered_within}
 use Rattle.yt_interleave.specs.Interleaved.{ActiveJob, RunState, port_at, known_at, whole_of, item_of, passes_of, with_begun, with_tick, with_end, with_idle}
@@ -29,7 +31,7 @@ use Rattle.yt_serial.specs.Premises.{CanRun}
 use Rattle.yt_interleave.specs.Moves.{MayBegin, after_tick, active_job, Interleaves, AllKnownHandled}
 use Rattle.yt_interleave.specs.Timing.{IsPlanOfRun}
 use Rattle.yt_interleave.proofs.Begin as begin
-use Rattle.yt_log.proofs.Members.{has_append, has_left, has_right}
+use Rattle.yt_log.proofs.Lemmas.{has_append, has_left, has_right}
 use Rattle.yt_interleave.proofs.Steps.{after_last, after_other}
 use Rattle.yt_interleave.proofs.Timing.{passes_late, known_port}
 

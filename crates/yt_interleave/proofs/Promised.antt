@@ -6,7 +6,7 @@ use Rattle.yt_log.specs.declared.plan.PlanItem.{PlanItem}
 use Rattle.yt_log.specs.EdfDdm.{IsEdfDdm}
 use Rattle.yt_log.specs.Patterns.{item_before}
 use Rattle.yt_log.specs.Tasks.{Has}
-use Rattle.yt_log.proofs.Members.{has_sorted, sorted_has}
+use Rattle.yt_log.proofs.Lemmas.{has_sorted, sorted_has}
 use Rattle.yt_rates.specs.Tables.{tasks_of}
 use Rattle.yt_serial.specs.declared.shown.OutLine.{OutLine}
 use Rattle.yt_serial.specs.declared.trace.Message.{Message}

@@ -10,9 +10,9 @@ use Rattle.yt_graph.specs.Picture.{GraphTree, PortTree}
 use Rattle.yt_graph.specs.WellFormed.{block_uses_var, IsVarOf, IsFineGroup, IsFinePort, IsWellFormed}
 use Rattle.yt_cost.specs.Code.{port_code}
 use Rattle.yt_cost.specs.CodeVars.{block_vars}
-use Rattle.yt_cost.proofs.CodeOwn.{owns}
-use Rattle.yt_cost.proofs.CodeUses.{uses_vars}
-use Rattle.yt_serial.specs.SerialHandling.{no_port}
+use Rattle.yt_cost.proofs.Lemmas.{owns}
+use Rattle.yt_cost.proofs.Lemmas.{uses_vars}
+use Rattle.yt_graph.specs.Labels.{no_port}
 use Rattle.yt_interleave.specs.Interleaved.{port_at, group_at, Uses}
 
 -- a number is that of a port, or of none

@@ -8,7 +8,7 @@ use Rattle.yt_graph.specs.declared.graph.Output.{Output}
 use Rattle.yt_graph.specs.declared.port.Feed.TheVariants.{Out}
 use Rattle.yt_graph.specs.Picture.{GraphTree}
 use Rattle.yt_log.specs.declared.job.Job.{Job}
-use Rattle.yt_log.specs.Order.{sort_by}
+use Rattle.yt_order.specs.Sorting.{sort_by}
 use Rattle.yt_log.specs.Tasks.{Has}
 use Rattle.yt_rates.specs.Rates.{period_of}
 use Rattle.yt_serial.specs.declared.shown.OutLine.{OutLine}
@@ -16,7 +16,7 @@ use Rattle.yt_serial.specs.declared.trace.Message.{Message}
 use Rattle.yt_serial.specs.PortMessages.{PortMessage}
 use Rattle.yt_serial.specs.SerialHandling.{Serial, brought, shown, all_shown, start, handle_message}
 use Rattle.yt_serial.specs.Told.{line_before}
-use Rattle.yt_log.proofs.Members.{has_append}
+use Rattle.yt_log.proofs.Lemmas.{has_append}
 use Rattle.yt_serial.proofs.Lemmas.{lines_append, all_before, all_at, all_past, LinesHold, TimesRise, from_not, lines_has, sorted_is}
 use Rattle.yt_interleave.specs.Interleaved.{ActiveJob, RunState, port_at, passes_of, put, to_come, added, output_feeds, first_state, with_begun, with_tick, with_end}
 use Rattle.yt_serial.specs.Lines.{lines_of, AreInLineOrder}

@@ -6,8 +6,8 @@ use Rattle.std.proofs.lemmas.Option.{none-some, same_Some}
 use Rattle.yt_graph.specs.Picture.{GraphTree, PortTree}
 use Rattle.yt_log.specs.declared.job.Job.{Job}
 use Rattle.yt_log.specs.Ticks.{Ticks, tick, done}
-use Rattle.yt_log.proofs.Ticks.{done-zero}
-use Rattle.yt_log.proofs.Appends.{jobs_none}
+use Rattle.yt_log.proofs.Lemmas.{done-zero}
+use Rattle.yt_log.proofs.Lemmas.{jobs_none}
 use Rattle.yt_serial.specs.declared.trace.Message.{Message}
 use Rattle.yt_serial.specs.Beginnings.{begun_below, order_of}
 use Rattle.yt_serial.specs.SerialHandling.{Serial, start, from_outside, handle_message}

@@ -22,7 +22,7 @@ use Rattle.yt_serial.specs.Beginnings.{nth_job}
 use Rattle.yt_interleave.proofs.Begin.{not_both}
 use Rattle.yt_interleave.proofs.HandlerWrites.{IsWritten, handling_written, written_more, after_writes-append, after_writes-length, kept_after, kept_or_written, same_after, has_at, before_length}
 use Rattle.yt_serial.proofs.Lemmas.{length_push, tick_cases, done_before, done_other, done_this, writes_below_push, writes_in_job, writes_in_idle}
-use Rattle.yt_log.proofs.Jobs.{cases_job}
+use Rattle.yt_log.proofs.Lemmas.{cases_job}
 
 -- a longer log keeps what is lawful and in turn, where its last tick is so
 module _ (items : List PlanItem) (log : Ticks) (o : Option Job) where

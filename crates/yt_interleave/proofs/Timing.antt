@@ -10,14 +10,15 @@ use Rattle.yt_log.specs.Plan.{IsLegal, its_task, deadline_of}
 use Rattle.yt_log.specs.Tasks as numbers
 use Rattle.yt_log.specs.Tasks.{Has, no_task}
 use Rattle.yt_log.specs.Ticks.{done, first_tick, KeepsDeadlines}
-use Rattle.yt_log.proofs.Demands.{deadline_is}
-use Rattle.yt_log.proofs.Plans.{one_item, good_item}
-use Rattle.yt_log.proofs.Ticks.{done_grows, first_is}
+use Rattle.yt_log.proofs.Lemmas.{deadline_is}
+use Rattle.yt_log.proofs.Lemmas.{one_item, good_item}
+use Rattle.yt_log.proofs.Lemmas.{done_grows, first_is}
 use Rattle.yt_rates.specs.Rates.{period_of}
 use Rattle.yt_rates.specs.Tables.{tasks_of}
 use Rattle.yt_serial.specs.declared.trace.Message.{Message}
 use Rattle.yt_serial.specs.Beginnings.{order_of, nth_job}
-use Rattle.yt_serial.specs.PortMessages.{PortMessage, numbered}
+use Rattle.yt_serial.specs.PortMessages.{PortMessage}
+use Rattle.yt_list.specs.Numbered.{numbered}
 use Rattle.yt_serial.specs.SerialHandling.{Serial, messages_at, items_of, handled_of, brought}
 use Rattle.yt_serial.proofs.Lemmas.{Holds, port_there, numbered_apart, port_task, sent_late, numbered_within, period_some}
 use Rattle.yt_interleave.specs.Interleaved.{ActiveJob, RunState, port_at, known_at, whole_of, item_of, passes_of, MatchesSerial}

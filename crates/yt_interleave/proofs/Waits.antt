@@ -12,7 +12,7 @@ use Rattle.yt_graph.specs.declared.port.Feed.{Feed}
 use Rattle.yt_graph.specs.declared.port.Feed.TheVariants.{Input, Out}
 use Rattle.yt_graph.specs.Cost.{greatest_sends}
 use Rattle.yt_rates.specs.Faults.{IsWithinRates}
-use Rattle.yt_log.proofs.Multiples.{next_multiple}
+use Rattle.yt_log.proofs.Lemmas.{next_multiple}
 use Rattle.yt_serial.proofs.Lemmas.{inputs_stay, numbered_far, placed_at, serial_holds, lines_hold, TimesRise, period_some}
 use Rattle.yt_graph.specs.Picture.{GraphTree, PortTree}
 use Rattle.yt_log.specs.Tasks.{Has}
@@ -21,7 +21,8 @@ use Rattle.yt_rates.specs.Rates.{every_of, period_of, gap_of}
 use Rattle.yt_serial.specs.declared.shown.OutLine.{OutLine}
 use Rattle.yt_serial.specs.declared.trace.Message.{Message}
 use Rattle.yt_serial.specs.Beginnings.{order_of}
-use Rattle.yt_serial.specs.PortMessages.{PortMessage, numbered, messages_of, spaced}
+use Rattle.yt_serial.specs.PortMessages.{PortMessage, messages_of, spaced}
+use Rattle.yt_list.specs.Numbered.{numbered}
 use Rattle.yt_serial.specs.SerialHandling.{Serial, messages_at, brought, from_outside, shown, start}
 use Rattle.yt_interleave.specs.Interleaved.{ActiveJob, RunState, port_at, known_at, passes_of, to_come, output_feeds, with_end}
 use Rattle.yt_serial.specs.Premises.{CanRun}

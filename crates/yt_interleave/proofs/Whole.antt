@@ -8,17 +8,19 @@ use Rattle.yt_log.specs.declared.plan.PlanItem.{PlanItem}
 use Rattle.yt_log.specs.Tasks.{Has, task_of}
 use Rattle.yt_log.specs.Plan.{its_task}
 use Rattle.yt_log.specs.Ticks.{done, IsActive}
-use Rattle.yt_log.proofs.Choices.{chosen}
-use Rattle.yt_log.proofs.Exclusions.{rule_is_safe}
-use Rattle.yt_log.proofs.Ticks.{done_yes, done_grows}
+use Rattle.yt_log.proofs.Lemmas.{chosen}
+use Rattle.yt_log.proofs.Lemmas.{rule_is_safe}
+use Rattle.yt_log.proofs.Lemmas.{done_yes, done_grows}
 use Rattle.yt_exec.specs.StandsFor.{with_cost}
 use Rattle.yt_rates.specs.Rates.{period_of}
 use Rattle.yt_rates.specs.Tables.{tasks_of}
 use Rattle.yt_serial.specs.declared.shown.OutLine.{OutLine}
 use Rattle.yt_serial.specs.declared.trace.Message.{Message}
 use Rattle.yt_serial.specs.Beginnings.{order_of, busy_until}
-use Rattle.yt_serial.specs.PortMessages.{PortMessage, numbered}
-use Rattle.yt_serial.specs.SerialHandling.{Serial, shown, no_port, start, handle_message}
+use Rattle.yt_serial.specs.PortMessages.{PortMessage}
+use Rattle.yt_list.specs.Numbered.{numbered}
+use Rattle.yt_serial.specs.SerialHandling.{Serial, shown, start, handle_message}
+use Rattle.yt_graph.specs.Labels.{no_port}
 use Rattle.yt_serial.specs.Told.{latest, IsPromisedRun}
 use Rattle.yt_serial.proofs.Lemmas.{port_there, length_push, tick_last, done_before, lines_hold}
 use Rattle.yt_interleave.specs.Interleaved.{ActiveJob, RunState, port_at, group_at, known_at, whole_of, item_of, first_state, with_begun, with_tick, with_idle}

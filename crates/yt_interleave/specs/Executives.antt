@@ -15,7 +15,8 @@ use Rattle.yt_exec.specs.declared.executive.Ticked.TheVariants.{Idle, Ran}
 use Rattle.yt_rates.specs.Tables.{tasks_of}
 use Rattle.yt_serial.specs.declared.shown.OutLine.{OutLine}
 use Rattle.yt_serial.specs.declared.trace.Message.{Message}
-use Rattle.yt_serial.specs.PortMessages.{PortMessage, numbered}
+use Rattle.yt_serial.specs.PortMessages.{PortMessage}
+use Rattle.yt_list.specs.Numbered.{numbered}
 use Rattle.yt_serial.specs.SerialHandling.{Serial, handle_message}
 use Rattle.yt_interleave.specs.Interleaved as own
 use Rattle.yt_interleave.specs.Interleaved.{ActiveJob, known_at, whole_of, with_begun, with_idle}

@@ -13,8 +13,10 @@ use Rattle.yt_log.specs.Ticks.{Ticks, tick, done, IsLawful}
 use Rattle.yt_cost.specs.CodeAlone.{written_before}
 use Rattle.yt_cost.specs.CodeVars.{block_vars}
 use Rattle.yt_serial.specs.declared.trace.Message.{Message}
-use Rattle.yt_serial.specs.PortMessages.{PortMessage, numbered, passed}
-use Rattle.yt_serial.specs.SerialHandling.{Serial, messages_at, items_of, handled_of, start, brought, placed, no_port, serial_run}
+use Rattle.yt_serial.specs.PortMessages.{PortMessage, passed}
+use Rattle.yt_list.specs.Numbered.{numbered}
+use Rattle.yt_serial.specs.SerialHandling.{Serial, messages_at, items_of, handled_of, start, brought, placed, serial_run}
+use Rattle.yt_graph.specs.Labels.{no_port}
 use Rattle.yt_serial.specs.Variables.{after_writes, writes_at, writes_of, variables_at}
 use Rattle.yt_serial.specs.Beginnings.{nth_job}
 

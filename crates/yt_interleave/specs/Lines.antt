@@ -3,7 +3,8 @@ use Rattle.std.specs.Prelude.{◌≡◌, ℕ, ◌==◌, nat_lt, List, [], ◌∷
 use Rattle.std.specs.Option.{unwrap_or}
 use Rattle.yt_graph.specs.Picture.{GraphTree}
 use Rattle.yt_serial.specs.declared.shown.OutLine.{OutLine}
-use Rattle.yt_serial.specs.PortMessages.{PortMessage, numbered}
+use Rattle.yt_serial.specs.PortMessages.{PortMessage}
+use Rattle.yt_list.specs.Numbered.{numbered}
 use Rattle.yt_serial.specs.SerialHandling.{Serial, shown}
 use Rattle.yt_interleave.specs.Interleaved.{RunState, to_come, added, output_feeds}
 use Rattle.yt_serial.specs.Lines.{lines_of, AreInLineOrder}

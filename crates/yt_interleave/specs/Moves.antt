@@ -5,7 +5,8 @@ use Rattle.yt_log.specs.declared.job.Job.{Job}
 use Rattle.yt_log.specs.Ticks.{done}
 use Rattle.yt_serial.specs.declared.trace.Message.{Message}
 use Rattle.yt_serial.specs.Beginnings.{order_of}
-use Rattle.yt_serial.specs.PortMessages.{PortMessage, numbered}
+use Rattle.yt_serial.specs.PortMessages.{PortMessage}
+use Rattle.yt_list.specs.Numbered.{numbered}
 use Rattle.yt_serial.specs.SerialHandling.{Serial, handled_of}
 use Rattle.yt_interleave.specs.Interleaved.{ActiveJob, RunState, group_at, whole_of, known_at, with_tick, with_end, MatchesSerial}
 use Rattle.yt_interleave.specs.Lines.{KnowsLines}

@@ -10,7 +10,8 @@ use Rattle.yt_rates.specs.Rates.{period_of}
 use Rattle.yt_serial.specs.declared.shown.OutLine.{OutLine}
 use Rattle.yt_serial.specs.declared.trace.Message.{Message}
 use Rattle.yt_serial.specs.Beginnings.{busy_until, nth_job}
-use Rattle.yt_serial.specs.PortMessages.{PortMessage, numbered}
+use Rattle.yt_serial.specs.PortMessages.{PortMessage}
+use Rattle.yt_list.specs.Numbered.{numbered}
 use Rattle.yt_serial.specs.SerialHandling.{Serial, messages_at, handled_of, shown, start, handle_message, handled_along}
 use Rattle.yt_serial.specs.Told.{latest, IsPromisedRun}
 use Rattle.yt_interleave.specs.Interleaved.{ActiveJob, RunState, known_at, whole_of, first_state, with_begun, with_idle}

@@ -91,6 +91,8 @@ mod tests {
         assert!(rt; read(&rt, &mut shelf, "file", 4999) == Err(ShelfFault::Long));
         assert!(rt; read(&rt, &mut shelf, "empty", 0)?.is_empty());
         assert!(rt; read(&rt, &mut shelf, "none", 9) == Err(ShelfFault::Failed));
+        std::fs::remove_file(&rt, "file")?;
+        std::fs::remove_file(&rt, "empty")?;
         Ok(())
     }
 

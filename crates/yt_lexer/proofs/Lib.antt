@@ -1,3 +1,4 @@
 mod Examples
-pub mod LexesLemmas
+pub mod Lemmas
+mod LexesLemmas
 mod PlaceLemmas

@@ -4,6 +4,7 @@ use Rattle.std.specs.List.{prefix_len}
 use Rattle.yt_base.specs.Digits.{signed_of_text}
 use Rattle.yt_base.specs.Lines.{is_feed}
 use Rattle.yt_graph.specs.declared.place.Place.{Place}
+use Rattle.yt_graph.specs.Limits.{most_name_bytes}
 pub use Rattle.yt_graph.specs.Names.{is_letter, is_digit, is_word_byte, is_name}
 pub use Rattle.yt_graph.specs.Reserved.{reserved_words, is_reserved}
 use Rattle.yt_lexer.specs.declared.token.TokenKind.{TokenKind}
@@ -47,7 +48,7 @@ symbol_len (b ∷ c ∷ bs) = if takes_equals b && (c == 61) then 2 else (if is_
 
 -- what a word is
 unfoldable pub word_token : Place → List ℕ → Result (TokenKind × ℕ) LexFault
-word_token place word = if nat_lt 32 (length word) then Err (LongName place) else Ok ((if is_reserved word then Key else Word), length word)
+word_token place word = if nat_lt most_name_bytes (length word) then Err (LongName place) else Ok ((if is_reserved word then Key else Word), length word)
 
 -- what digits are
 unfoldable pub number_token : Place → List ℕ → Result (TokenKind × ℕ) LexFault

@@ -5,10 +5,7 @@ ghost use Rattle.yt_lexer.specs.First.{is_digit, is_word_byte, takes_equals, is_
 
 use crate::token::{LexFault, TokenKind};
 use yt_base::signed;
-use yt_graph::{Place, is_letter, is_word_byte, reserved};
-
-/// How many bytes a word has at most.
-const WORD_ROOM: usize = 32;
+use yt_graph::{MOST_NAME_BYTES, Place, is_digit, is_letter, is_word_byte, reserved};
 
 /// The token at the front with its number of bytes, or the fault there.
 #[tactic(auto, unfolding(crate::specs::First::first_token))]
@@ -30,7 +27,7 @@ fn word_token(place: Place, word: &[u8]) -> Result<(TokenKind, usize), LexFault>
     ensures value { result ≡ word_token place word.now }
     ensures len { IfOk result (λ r. r.1 ≡ length word.now) }
 {
-    if word.len() > WORD_ROOM {
+    if word.len() > MOST_NAME_BYTES {
         return Err(LexFault::LongName(place));
     }
     if reserved(word) {
@@ -102,11 +99,4 @@ fn is_symbol(b: u8) -> bool
     ensures { result ≡ is_symbol b }
 {
     matches!(b, b'('..=b'/' | b'<'..=b'>' | b'%' | b'{' | b'}')
-}
-
-/// Whether a byte is a decimal digit.
-fn is_digit(b: u8) -> bool
-    ensures { result ≡ is_digit b }
-{
-    b.is_ascii_digit()
 }

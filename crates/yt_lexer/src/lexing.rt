@@ -2,6 +2,7 @@
 ghost use Rattle.std.specs.Prelude.{◌≡◌, ◌≤◌, ◌<◌, ◌+◌, None, length, IfOk, IfErr, List, Option};
 ghost use Rattle.yt_lexer.specs.declared.token.Token.{Token};
 ghost use Rattle.yt_lexer.specs.declared.token.LexFault.{LexFault};
+ghost use Rattle.yt_lexer.specs.Limits.{most_text_bytes};
 ghost use Rattle.yt_lexer.specs.Places.{IsSpot};
 ghost use Rattle.yt_lexer.specs.Lexes.{IsTokenAt, IsFaultAt, Lexes, IsFirstFault, Gives};
 
@@ -26,7 +27,7 @@ pub(crate) struct Spot {
 /// The text has at most 16,777,216 bytes. `BadByte`, `LongName` and `BigNumber` come exactly where the first fault of the
 /// text is of that kind and at that place, unless memory runs out.
 pub fn lex(alloc: Global, text: &[u8]) -> Result<Tokens, LexFault>
-    requires { length text.now ≤ 16777216 }
+    requires { length text.now ≤ most_text_bytes }
 
     // The tokens are those of the text, which has no fault.
     ensures ok { IfOk result (λ tokens. Lexes text.now 0 tokens None) }
@@ -55,7 +56,7 @@ pub fn lex(alloc: Global, text: &[u8]) -> Result<Tokens, LexFault>
 
 /// The token that begins here, and the spot behind it; or the fault.
 fn token_at(text: &[u8], spot: Spot) -> Result<(Token, Spot), LexFault>
-    requires short { length text.now ≤ 16777216 }
+    requires short { length text.now ≤ most_text_bytes }
     requires more { spot.at < length text.now }
     requires spot { IsSpot text.now spot.at spot.place }
     ensures ok { IfOk result (λ r. IsTokenAt text.now spot.at r.0) }
@@ -76,7 +77,7 @@ fn token_at(text: &[u8], spot: Spot) -> Result<(Token, Spot), LexFault>
 
 /// The spot so many bytes behind another.
 fn behind(text: &[u8], spot: Spot, len: usize) -> Spot
-    requires short { length text.now ≤ 16777216 }
+    requires short { length text.now ≤ most_text_bytes }
     requires inside { spot.at + len ≤ length text.now }
     requires spot { IsSpot text.now spot.at spot.place }
     ensures at { result.at ≡ spot.at + len }

@@ -1,12 +1,13 @@
 //! The line and the column behind bytes.
 ghost use Rattle.std.specs.Prelude.{◌≡◌, ◌≤◌, ◌<◌, ◌+◌, ◌^◌, length};
+ghost use Rattle.yt_lexer.specs.Limits.{most_text_bytes};
 ghost use Rattle.yt_lexer.specs.Places.{next_place, place_after, place_of};
 
 use yt_graph::Place;
 
 /// The place of the end of a text, which has at most 16,777,216 bytes.
 pub fn end_place(text: &[u8]) -> Place
-    requires { length text.now ≤ 16777216 }
+    requires { length text.now ≤ most_text_bytes }
     ensures { result ≡ place_of text.now (length text.now) }
 {
     place_behind(Place { line: 1, col: 1 }, text)

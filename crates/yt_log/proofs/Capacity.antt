@@ -134,7 +134,7 @@ miss_or_done tasks log h (x ∷ xs) =
     let d = deadline_of tasks x in
     let kept : (x.cost ≤ done log x.job h) ⊎ (h < d) → Misses tasks (x ∷ xs) log h ⊎ ((e : PlanItem) → Has (x ∷ xs) e → deadline_of tasks e ≤ h → e.cost ≤ done log e.job h) = λ here.
     ⊎_elim
-    (λ (r : Misses tasks xs log h). inl (r.0, inr r.1, r.2, r.3))
+    (λ (r : Misses tasks xs log h). inl (r.0, inr r.1, r.2))
     (λ (r : (e : PlanItem) → Has xs e → deadline_of tasks e ≤ h → e.cost ≤ done log e.job h). inr (λ e is by. ⊎_elim
     (λ (q : e ≡ x).
     let P : PlanItem → Type 0 = λ y. deadline_of tasks y ≤ h → y.cost ≤ done log y.job h in
@@ -144,7 +144,7 @@ miss_or_done tasks log h (x ∷ xs) =
     ⊎_elim
     (λ (l : h < d). kept (inr l))
     (λ (l : d ≤ h). ⊎_elim
-    (λ (m : done log x.job d < x.cost). inl (x, inl refl, l, m))
+    (λ (m : done log x.job d < x.cost). inl (x, inl refl, record { due = l; short = m }))
     (λ (m : x.cost ≤ done log x.job d). let g = done_grows log x.job d h l in kept (inl (omega arith)))
     (cases_lt (done log x.job d) x.cost))
     (cases_lt h d)

@@ -1,7 +1,8 @@
 -- What the deadline-modified rule gives a tick to.
-use Rattle.std.proofs.Common.{◌≡◌, ℕ, ◌+◌, ◌<◌, ◌≤◌, ◌⊎◌, min, Bool, true, false, ◌&&◌, ◌||◌, cond, eqb, leb, ltb, List, [], ◌∷◌, length, Option, Some, None, refl, sym, ap, subst, ◌∙◌, inl, inr, ⊎_elim, arith, eqb-true, eq-eqb, ne_eqb, ltb-true, lt-ltb, leb-true, le-leb}
-use Rattle.std.proofs.lemmas.Bool.{cases_Bool, cases_lt, cases_eq, cases_order, and_parts, and_from, or_cases, or_left, or_right, cond-true, cond-false, both_ways}
+use Rattle.std.proofs.Common.{◌≡◌, ℕ, ◌+◌, ◌<◌, ◌≤◌, min, Bool, true, false, cond, eqb, leb, ltb, List, [], ◌∷◌, length, Option, Some, None, refl, sym, ap, subst, ◌∙◌, inl, inr, ⊎_elim, arith, eq-eqb, ne_eqb, ltb-true, lt-ltb, leb-true, le-leb}
+use Rattle.std.proofs.lemmas.Bool.{cases_Bool, cases_lt, cases_eq, and_parts, and_from, cond-true, cond-false, both_ways}
 use Rattle.std.proofs.lemmas.List.{get_or_past}
+use Rattle.yt_order.proofs.Lemmas.{precedes_less, precedes_same, precedes_one_way, precedes_either}
 use Rattle.yt_set.specs.declared.task.Task.{Task}
 use Rattle.yt_set.specs.Tasks.{floor_of}
 use Rattle.yt_log.specs.declared.job.Job.{Job}
@@ -9,54 +10,9 @@ use Rattle.yt_log.specs.declared.plan.PlanItem.{PlanItem}
 use Rattle.yt_log.specs.Tasks.{Has}
 use Rattle.yt_log.specs.Plan.{its_task, deadline_of}
 use Rattle.yt_log.specs.Ticks.{Ticks, tick, done, first_tick, IsWaiting}
-use Rattle.yt_log.specs.EdfDdm.{lowered, current_deadline, rank, precedes, waits, sooner, least, job_of, choice, IsEdfDdm}
+use Rattle.yt_log.specs.EdfDdm.{lowered, current_deadline, rank, waits, sooner, least, job_of, choice, IsEdfDdm}
+use Rattle.yt_order.specs.Words.{precedes}
 use Rattle.yt_log.proofs.Floors.{floor_at, floor_some, floor_none}
-
--- the order of words
-precedes-cons : (x y : ℕ) (xs ys : List ℕ) → precedes (x ∷ xs) (y ∷ ys) ≡ (ltb x y || (eqb x y && precedes xs ys))
-unfolding precedes
-precedes-cons x y xs ys = refl
-
-pub precedes_less : (x y : ℕ) (xs ys : List ℕ) → x < y → precedes (x ∷ xs) (y ∷ ys) ≡ true
-precedes_less x y xs ys h = precedes-cons x y xs ys ∙ or_left (ltb x y) (eqb x y && precedes xs ys) (lt-ltb x y h)
-
-pub precedes_same : (x y : ℕ) (xs ys : List ℕ) → x ≡ y → precedes xs ys ≡ true → precedes (x ∷ xs) (y ∷ ys) ≡ true
-precedes_same x y xs ys e h = precedes-cons x y xs ys ∙ or_right (ltb x y) (eqb x y && precedes xs ys) (and_from (eqb x y) (precedes xs ys) (eq-eqb x y e) h)
-
-pub precedes_parts : (x y : ℕ) (xs ys : List ℕ) → precedes (x ∷ xs) (y ∷ ys) ≡ true → (x < y) ⊎ ((x ≡ y) × (precedes xs ys ≡ true))
-precedes_parts x y xs ys h =
-    ⊎_elim
-    (λ (l : ltb x y ≡ true). inl (ltb-true x y l))
-    (λ (r : (eqb x y && precedes xs ys) ≡ true). let q = and_parts (eqb x y) (precedes xs ys) r in inr (eqb-true x y q.0, q.1))
-    (or_cases (ltb x y) (eqb x y && precedes xs ys) (sym (precedes-cons x y xs ys) ∙ h))
-
-pub precedes_one_way : (xs ys : List ℕ) → precedes xs ys ≡ true → precedes ys xs ≡ true → ⊥
-unfolding precedes
-precedes_one_way [] [] h k = cc
-precedes_one_way [] (y ∷ ys) h k = cc
-precedes_one_way (x ∷ xs) [] h k = cc
-precedes_one_way (x ∷ xs) (y ∷ ys) h k =
-    ⊎_elim
-    (λ (a : x < y). ⊎_elim (λ (b : y < x). omega arith) (λ (b : (y ≡ x) × (precedes ys xs ≡ true)). omega arith) (precedes_parts y x ys xs k))
-    (λ (a : (x ≡ y) × (precedes xs ys ≡ true)). ⊎_elim (λ (b : y < x). omega arith) (λ (b : (y ≡ x) × (precedes ys xs ≡ true)). precedes_one_way xs ys a.1 b.1) (precedes_parts y x ys xs k))
-    (precedes_parts x y xs ys h)
-
--- what comes before zs comes before ys, or ys before zs
-pub precedes_either : (xs ys zs : List ℕ) → precedes xs zs ≡ true → (precedes xs ys ≡ true) ⊎ (precedes ys zs ≡ true)
-unfolding precedes
-precedes_either [] [] zs h = inr h
-precedes_either [] (y ∷ ys) zs h = inl refl
-precedes_either (x ∷ xs) ys [] h = cc
-precedes_either (x ∷ xs) [] (z ∷ zs) h = inr refl
-precedes_either (x ∷ xs) (y ∷ ys) (z ∷ zs) h =
-    ⊎_elim
-    (λ (a : x < z). ⊎_elim (λ (b : x < y). inl (precedes_less x y xs ys b)) (λ (b : y ≤ x). inr (precedes_less y z ys zs (omega arith))) (cases_lt x y))
-    (λ (a : (x ≡ z) × (precedes xs zs ≡ true)).
-    ⊎_elim
-    (λ (b : x ≡ y). ⊎_elim (λ (l : precedes xs ys ≡ true). inl (precedes_same x y xs ys b l)) (λ (r : precedes ys zs ≡ true). inr (precedes_same y z ys zs (omega arith) r)) (precedes_either xs ys zs a.1))
-    (λ (b : (x < y) ⊎ (y < x)). ⊎_elim (λ (l : x < y). inl (precedes_less x y xs ys l)) (λ (r : y < x). inr (precedes_less y z ys zs (omega arith))) b)
-    (cases_order x y))
-    (precedes_parts x z xs zs h)
 
 -- an item of the list that passes, and that none which passes precedes
 pub record IsFirstOf (key : PlanItem → List ℕ) (passes : PlanItem → Bool) (xs : List PlanItem) (r : PlanItem) : Type 0 where

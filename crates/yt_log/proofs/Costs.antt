@@ -6,7 +6,8 @@ use Rattle.yt_log.specs.declared.job.Job.{Job}
 use Rattle.yt_log.specs.declared.plan.PlanItem.{PlanItem}
 use Rattle.yt_log.specs.Plan.{deadline_of}
 use Rattle.yt_log.specs.Ticks.{Ticks, done}
-use Rattle.yt_log.specs.EdfDdm.{current_deadline, rank, precedes, waits, sooner, least, job_of, choice}
+use Rattle.yt_log.specs.EdfDdm.{current_deadline, rank, waits, sooner, least, job_of, choice}
+use Rattle.yt_order.specs.Words.{precedes}
 use Rattle.yt_log.specs.Laws.{IsLike, AreLike, CostsWait}
 use Rattle.yt_log.proofs.Ticks.{done_grows}
 

@@ -1,5 +1,5 @@
 -- What segments count, and that a log's segments count what it has done.
-use Rattle.std.proofs.Common.{◌≡◌, ℕ, zero, suc, ◌+◌, ◌-◌, ◌<◌, ◌≤◌, min, Bool, true, false, cond, List, [], ◌∷◌, length, drop, get_or, Option, Some, None, refl, sym, ap, ap₂, subst, ◌∙◌, ⊎_elim, arith, ◌&&◌, eqb, ltb, eq-eqb, lt-ltb}
+use Rattle.std.proofs.Common.{◌≡◌, ℕ, zero, suc, ◌+◌, ◌-◌, ◌<◌, ◌≤◌, min, Bool, true, false, cond, List, [], ◌∷◌, length, drop, get_or, Option, Some, None, refl, sym, ap, subst, ◌∙◌, ⊎_elim, arith, ◌&&◌, eqb, ltb, eq-eqb, lt-ltb}
 use Rattle.std.proofs.lemmas.Bool.{and_from, both_ways, cases_lt, cond-false, false_from_ne_true}
 use Rattle.std.proofs.lemmas.List.{drop_more, drop-drop, get_or_past}
 use Rattle.yt_log.specs.declared.job.Job.{Job}

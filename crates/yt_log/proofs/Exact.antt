@@ -1,10 +1,11 @@
 -- A set fits exactly where no legal plan must miss.
-use Rattle.std.proofs.Common.{◌≡◌, ℕ, zero, suc, ◌+◌, ◌-◌, ◌<◌, ◌≤◌, ◌⊎◌, List, [], ◌∷◌, Some, None, refl, sym, subst, ◌∙◌, inl, inr, ⊎_elim, arith}
+use Rattle.std.proofs.Common.{◌≡◌, ℕ, zero, suc, ◌+◌, ◌-◌, ◌<◌, ◌≤◌, ◌⊎◌, List, [], ◌∷◌, Option, Some, None, refl, sym, subst, ◌∙◌, inl, inr, ⊎_elim, arith}
+use Rattle.std.specs.Prelude.{IsSomeAnd}
 use Rattle.std.proofs.lemmas.Bool.{cases_lt, cases_eq}
 use Rattle.std.specs.List.{All}
 use Rattle.yt_set.specs.declared.task.Task.{Task}
-use Rattle.yt_set.specs.Tasks.{IsTaskSet, FitsInterval, LeavesRoom, within, demand_bound, hyperperiod, load}
-use Rattle.yt_set.proofs.Hyperperiods.{all_more}
+use Rattle.yt_set.specs.Tasks.{IsTaskSet, FitsInterval, LacksRoom, LeavesRoom, floor_of, within, demand_bound, hyperperiod, load}
+use Rattle.yt_set.proofs.Lemmas.{all_more}
 use Rattle.yt_log.specs.declared.plan.PlanItem.{PlanItem}
 use Rattle.yt_log.specs.Tasks.{Has, task_of}
 use Rattle.yt_log.specs.EdfDdm.{edf_ddm}
@@ -89,18 +90,19 @@ blocks_plan tasks set task is b =
 
 -- where no task does so, each leaves room
 rooms_from : (tasks : List Task) → ((task : Task) → Has tasks task → Blocks tasks task → ⊥) → FitsInterval tasks
-rooms_from tasks none = all_has (LeavesRoom tasks) tasks (λ task is floor span at above below.
-    ⊎_elim
-    (λ (l : span < task.cost + demand_bound tasks (span - 1)).
-    let held : 0 < task.resource = ⊎_elim
-    (λ (z : task.resource ≡ 0). let e = floor_none tasks task.resource z in let both : None ≡ Some floor = sym e ∙ at in cc)
-    (λ (nz : task.resource ≡ 0 → ⊥). omega arith)
-    (cases_eq task.resource 0) in
-    let e : Some (floor_at tasks task) ≡ Some floor = sym (floor_some tasks task is held) ∙ at in
-    let same : floor_at tasks task ≡ floor = cc in
-    absurd (none task is (record { held = held; span = span; below = below; fails = record { above = omega arith; over = l } })))
-    (λ (l : task.cost + demand_bound tasks (span - 1) ≤ span). l)
-    (cases_lt span (task.cost + demand_bound tasks (span - 1))))
+rooms_from tasks none = all_has (LeavesRoom tasks) tasks (λ task is span lacks. blocked task is span lacks (floor_of tasks task.resource) refl lacks.0)
+  where
+    blocked : (task : Task) → Has tasks task → (span : ℕ) → LacksRoom tasks span task → (o : Option ℕ) → floor_of tasks task.resource ≡ o → IsSomeAnd o (λ n. n < span) → ⊥
+    blocked task is span lacks None at above = above
+    blocked task is span lacks (Some floor) at above =
+        let held : 0 < task.resource = ⊎_elim
+        (λ (z : task.resource ≡ 0). let e = floor_none tasks task.resource z in let both : None ≡ Some floor = sym e ∙ at in cc)
+        (λ (nz : task.resource ≡ 0 → ⊥). omega arith)
+        (cases_eq task.resource 0) in
+        let e : Some (floor_at tasks task) ≡ Some floor = sym (floor_some tasks task is held) ∙ at in
+        let same : floor_at tasks task ≡ floor = cc in
+        let more : floor < span = above in
+        none task is (record { held = held; span = span; below = lacks.1; fails = record { above = omega arith; over = lacks.2 } })
 
 pub rule_misses : RuleMisses
 rule_misses tasks plan h must log long rule =
@@ -123,8 +125,8 @@ fits_is_exact = record {
       let made = rule_makes_logs tasks plan h in
       let long = made.long in
       let miss = rule_misses tasks plan h must log (omega arith) made.rule in
-      let due = miss.2 in
-      let late = miss.3 in
+      let due = miss.2.due in
+      let late = miss.2.short in
       let kept = fits_keeps tasks set fits plan must.legal log made.rule miss.0 miss.1 (omega arith) in
       omega arith;
 }

@@ -1,27 +1,20 @@
 -- The first tick at which a log leaves the rule is the first at which it breaks anything, and what it breaks there.
-use Rattle.std.proofs.Common.{◌≡◌, ℕ, zero, suc, ◌+◌, ◌<◌, ◌≤◌, ◌⊎◌, List, [], ◌∷◌, length, take, min, Option, Some, None, refl, sym, ap, subst, ◌∙◌, inl, inr, ⊎_elim, arith}
-use Rattle.std.proofs.lemmas.Bool.{cases_lt, cases_eq}
+use Rattle.std.proofs.Common.{◌≡◌, ℕ, zero, suc, ◌<◌, ◌≤◌, List, length, take, Some, None, refl, sym, ◌∙◌, arith}
 use Rattle.std.proofs.lemmas.List.{length-take, get_or-take}
 use Rattle.yt_set.specs.declared.task.Task.{Task}
-use Rattle.yt_set.specs.Tasks.{IsTaskSet}
 use Rattle.yt_log.specs.declared.job.Job.{Job}
 use Rattle.yt_log.specs.declared.plan.PlanItem.{PlanItem}
-use Rattle.yt_log.specs.declared.judge.broken.Broken.{Broken}
 use Rattle.yt_log.specs.declared.judge.broken.Rule.{Rule}
 use Rattle.yt_log.specs.declared.judge.broken.Rule.TheVariants.{Unlawful, Idle, Shared, NotLeast}
-use Rattle.yt_log.specs.declared.judge.heads.Head.{Head}
 use Rattle.yt_log.specs.Tasks.{Has}
 use Rattle.yt_log.specs.Plan.{its_task, IsLegal}
-use Rattle.yt_log.specs.Ticks.{Ticks, tick, done, IsWaiting, IsActive, IsLawful, IsWorkConserving, IsExclusive}
-use Rattle.yt_log.specs.EdfDdm.{choice, IsEdfDdm}
+use Rattle.yt_log.specs.Ticks.{Ticks, tick, done, IsWaiting, IsActive}
+use Rattle.yt_log.specs.EdfDdm.{choice}
 use Rattle.yt_log.specs.Laws.{IsSafe}
-use Rattle.yt_log.specs.Judging.{NamesUnwaiting, IdlesWhileWaiting, SharesResource, LeavesRule, Breaks, place_of, IsFirstBroken, IsUnbroken}
-use Rattle.yt_log.specs.Heads.{item_at, item_of, IsHead, AreHeads, KeepsResource}
-use Rattle.yt_log.proofs.Ticks.{done-zero, done_yes, done_no, done_grows}
-use Rattle.yt_log.proofs.Plans.{good_item}
+use Rattle.yt_log.specs.Judging.{NamesUnwaiting, IdlesWhileWaiting, SharesResource, LeavesRule, Breaks, place_of, IsFirstBroken}
+use Rattle.yt_log.proofs.Ticks.{done-zero, done_grows}
 use Rattle.yt_log.proofs.Made.{Agree, done_same, choice_same}
 use Rattle.yt_log.proofs.Exclusions.{rule_is_safe}
-use Rattle.yt_log.proofs.Places.{IsAt, placed, has_place}
 
 module _ (tasks : List Task) (plan : List PlanItem) (legal : IsLegal tasks plan) (log : Ticks) (t : ℕ) (within : t ≤ length log) (ruled : (u : ℕ) → u < t → tick log u ≡ choice tasks plan log u) where
   -- the log's first t ticks

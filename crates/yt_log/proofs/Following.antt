@@ -1,5 +1,5 @@
 -- Following a log for as long as it goes by the rule, and what it breaks where it leaves it.
-use Rattle.std.proofs.Common.{◌≡◌, ℕ, zero, suc, ◌+◌, ◌-◌, ◌<◌, ◌≤◌, ◌⊎◌, ◌↔◌, IsTrue, true, false, not, leb, ltb, List, [], ◌∷◌, length, min, set, get_or, Option, Some, None, refl, sym, ap, ap₂, subst, ◌∙◌, inl, inr, ⊎_elim, arith, ltb-true, lt-ltb, leb-true}
+use Rattle.std.proofs.Common.{◌≡◌, ℕ, zero, suc, ◌+◌, ◌-◌, ◌<◌, ◌≤◌, ◌↔◌, IsTrue, true, false, not, leb, ltb, List, length, min, set, Option, Some, None, sym, ap, subst, ◌∙◌, ⊎_elim, arith, ltb-true, lt-ltb, leb-true}
 use Rattle.std.proofs.lemmas.Bool.{cases_Bool, cases_lt, cases_eq}
 use Rattle.std.proofs.lemmas.List.{length-set, get_or-set_same, get_or-set_other}
 use Rattle.yt_set.specs.declared.task.Task.{Task}
@@ -15,8 +15,8 @@ use Rattle.yt_log.specs.Plan.{same_job, its_task, IsLegal}
 use Rattle.yt_log.specs.Ticks.{Ticks, tick, done, IsWaiting, IsActive}
 use Rattle.yt_log.specs.EdfDdm.{choice, IsEdfDdm}
 use Rattle.yt_log.specs.Segments.{segments_of}
-use Rattle.yt_log.specs.Judging.{JobWaits, NamesUnwaiting, IdlesWhileWaiting, SharesResource, LeavesRule, Breaks, IsFirstBroken, IsUnbroken}
-use Rattle.yt_log.specs.Heads.{item_at, item_of, no_head, head_at, IsHead, AreHeads, AreUnfinished, Waits, IsLeastHead, Leads, ran, Starts, KeepsResource}
+use Rattle.yt_log.specs.Judging.{JobWaits, NamesUnwaiting, IdlesWhileWaiting, SharesResource, Breaks, IsFirstBroken, IsUnbroken}
+use Rattle.yt_log.specs.Heads.{item_at, item_of, no_head, head_at, IsHead, AreHeads, IsLeastHead, Leads, ran, Starts, KeepsResource}
 use Rattle.yt_log.specs.Following.{Follows}
 use Rattle.yt_log.specs.Counts.{ticks_below}
 use Rattle.yt_log.proofs.Jobs.{same_job_refl, same_job_true}
@@ -26,9 +26,9 @@ use Rattle.yt_log.proofs.Places.{has_place}
 use Rattle.yt_log.proofs.Counting.{done_is_ticks}
 use Rattle.yt_log.proofs.HeadChoices.{has_head, head_chosen, behind_head}
 use Rattle.yt_log.proofs.HeadSteps.{head_next, head_first}
-use Rattle.yt_log.proofs.HeadRuns.{IsQuiet, RuledFor, idles, HasRun, runs}
+use Rattle.yt_log.proofs.HeadRuns.{IsQuiet, idles, runs}
 use Rattle.yt_log.proofs.Exclusions.{rule_is_safe}
-use Rattle.yt_log.proofs.FirstBreaks.{unbroken_before, begun_before, unlawful_first, idle_first, shared_first, not_least_first}
+use Rattle.yt_log.proofs.FirstBreaks.{begun_before, unlawful_first, idle_first, shared_first, not_least_first}
 
 -- a job that has arrived waits exactly where its item has had less than it costs
 pub waiting_told : (plan : List PlanItem) (log : Ticks) (t ticks : ℕ) (job : Job) (item : PlanItem) (items : List PlanItem) (segments : List Segment) → items ≡ plan → Has items item → item.job ≡ job → segments ≡ segments_of log →

@@ -6,7 +6,7 @@ use Rattle.std.specs.Int.{◌∣◌}
 use Rattle.yt_set.specs.declared.task.Task.{Task}
 use Rattle.yt_set.specs.Tasks.{IsTask, IsTaskSet, within, jobs_due, demand_bound, hyperperiod}
 use Rattle.yt_set.specs.Tasks.{load as load_of}
-use Rattle.yt_set.proofs.Hyperperiods.{all_first, all_rest, hyperperiod_is}
+use Rattle.yt_set.proofs.Lemmas.{all_first, all_rest, hyperperiod_is}
 use Rattle.yt_log.specs.Tasks.{Has}
 
 -- a task that costs a tick or more, and is due after a tick or more and within its period

@@ -1,6 +1,6 @@
 -- The heads of the tasks tell what the rule gives a tick to.
-use Rattle.std.proofs.Common.{◌≡◌, ℕ, zero, suc, ◌+◌, ◌-◌, ◌<◌, ◌≤◌, ◌⊎◌, true, false, cond, eqb, List, [], ◌∷◌, length, Option, Some, None, refl, sym, ap, ap₂, subst, ◌∙◌, inl, inr, ⊎_elim, arith}
-use Rattle.std.proofs.lemmas.Bool.{cases_Bool, cases_lt, cases_order, both_ways, false_from_ne_true}
+use Rattle.std.proofs.Common.{◌≡◌, ℕ, suc, ◌+◌, ◌-◌, ◌<◌, ◌≤◌, ◌⊎◌, true, false, cond, eqb, List, [], ◌∷◌, length, Option, Some, None, sym, ap, ap₂, subst, ◌∙◌, inl, inr, ⊎_elim, arith}
+use Rattle.std.proofs.lemmas.Bool.{cases_lt, both_ways, false_from_ne_true}
 use Rattle.yt_set.specs.declared.task.Task.{Task}
 use Rattle.yt_set.specs.Tasks.{IsTaskSet}
 use Rattle.yt_log.specs.declared.plan.PlanItem.{PlanItem}
@@ -8,12 +8,14 @@ use Rattle.yt_log.specs.declared.judge.heads.Head.{Head}
 use Rattle.yt_log.specs.Tasks.{Has}
 use Rattle.yt_log.specs.Plan.{deadline_of, IsLegal}
 use Rattle.yt_log.specs.Ticks.{Ticks, done, IsWaiting}
-use Rattle.yt_log.specs.EdfDdm.{current_deadline, rank, precedes, choice}
-use Rattle.yt_log.specs.Heads.{item_at, item_of, head_at, TellsItem, IsHead, AreHeads, AreUnfinished, Waits, IsLeastHead, Leads, head_rank}
+use Rattle.yt_log.specs.EdfDdm.{current_deadline, rank, choice}
+use Rattle.yt_order.specs.Words.{precedes}
+use Rattle.yt_log.specs.Heads.{item_at, item_of, TellsItem, IsHead, AreHeads, AreUnfinished, Waits, IsLeastHead, Leads, head_rank}
 use Rattle.yt_log.proofs.Plans.{good_item}
-use Rattle.yt_log.proofs.Choices.{precedes_less, precedes_either, precedes_one_way, current_fresh, current_le}
+use Rattle.yt_log.proofs.Choices.{current_fresh, current_le}
+use Rattle.yt_order.proofs.Lemmas.{precedes_less, precedes_either, precedes_one_way}
 use Rattle.yt_log.proofs.Leasts.{rule_is_least}
-use Rattle.yt_log.proofs.Places.{IsAt, placed, has_place, follows, due_later}
+use Rattle.yt_log.proofs.Places.{placed, has_place, follows, due_later}
 
 -- a head has its item's rank
 pub rank_of_head : (tasks : List Task) (plan : List PlanItem) (log : Ticks) (t task : ℕ) (head : Head) → TellsItem tasks log t task head (item_of plan head) → rank tasks log t (item_of plan head) ≡ head_rank plan head

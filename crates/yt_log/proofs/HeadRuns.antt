@@ -1,5 +1,5 @@
 -- A stretch of ticks in which no head arrives: the least head keeps the ticks, or none does.
-use Rattle.std.proofs.Common.{◌≡◌, ℕ, zero, suc, ◌+◌, ◌-◌, ◌<◌, ◌≤◌, ◌⊎◌, Bool, true, false, cond, eqb, List, [], ◌∷◌, length, Option, Some, None, refl, sym, ap, ap₂, subst, ◌∙◌, inl, inr, ⊎_elim, arith, eq-eqb, ne_eqb}
+use Rattle.std.proofs.Common.{◌≡◌, ℕ, zero, suc, ◌+◌, ◌<◌, ◌≤◌, true, false, cond, eqb, List, [], ◌∷◌, length, Option, Some, None, refl, sym, ap, ap₂, subst, ◌∙◌, ⊎_elim, arith, eq-eqb, ne_eqb}
 use Rattle.std.proofs.lemmas.Bool.{cases_Bool, cases_lt, cases_eq, cond-true, cond-false, both_ways, false_from_ne_true}
 use Rattle.yt_set.specs.declared.task.Task.{Task}
 use Rattle.yt_set.specs.Tasks.{IsTaskSet, floor_of}
@@ -8,9 +8,10 @@ use Rattle.yt_log.specs.declared.plan.PlanItem.{PlanItem}
 use Rattle.yt_log.specs.declared.judge.heads.Head.{Head}
 use Rattle.yt_log.specs.Plan.{its_task, IsLegal}
 use Rattle.yt_log.specs.Ticks.{Ticks, tick}
-use Rattle.yt_log.specs.EdfDdm.{lowered, precedes, choice}
+use Rattle.yt_log.specs.EdfDdm.{lowered, choice}
+use Rattle.yt_order.specs.Words.{precedes}
 use Rattle.yt_log.specs.Heads.{item_at, item_of, IsHead, AreHeads, AreUnfinished, Waits, IsLeastHead, head_rank, ran}
-use Rattle.yt_log.proofs.Choices.{precedes_less, precedes_same, precedes_parts, precedes_one_way}
+use Rattle.yt_order.proofs.Lemmas.{precedes_less, precedes_same, precedes_parts, precedes_one_way}
 use Rattle.yt_log.proofs.HeadChoices.{none_chosen, head_chosen}
 use Rattle.yt_log.proofs.HeadSteps.{head_stays, head_runs}
 

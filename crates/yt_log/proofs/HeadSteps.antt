@@ -1,13 +1,13 @@
 -- How the heads of the tasks go on from tick to tick.
-use Rattle.std.proofs.Common.{◌≡◌, ℕ, zero, suc, ◌+◌, ◌-◌, ◌<◌, ◌≤◌, ◌⊎◌, Bool, true, false, cond, eqb, List, [], ◌∷◌, length, slice_get, min, Option, Some, None, refl, sym, ap, ap₂, subst, ◌∙◌, inl, inr, ⊎_elim, arith, eq-eqb, ne_eqb}
-use Rattle.std.proofs.lemmas.Bool.{cases_Bool, cases_lt, cases_eq, cond-true, cond-false, both_ways, false_from_ne_true}
+use Rattle.std.proofs.Common.{◌≡◌, ℕ, suc, ◌+◌, ◌-◌, ◌<◌, ◌≤◌, cond, eqb, List, length, slice_get, min, Option, Some, None, sym, ap, ap₂, subst, ◌∙◌, ⊎_elim, arith, eq-eqb, ne_eqb}
+use Rattle.std.proofs.lemmas.Bool.{cases_lt, cases_eq, cond-true, cond-false}
 use Rattle.yt_set.specs.declared.task.Task.{Task}
-use Rattle.yt_set.specs.Tasks.{IsTaskSet, floor_of}
+use Rattle.yt_set.specs.Tasks.{floor_of}
 use Rattle.yt_log.specs.declared.job.Job.{Job}
 use Rattle.yt_log.specs.declared.plan.PlanItem.{PlanItem}
 use Rattle.yt_log.specs.declared.judge.heads.Head.{Head}
 use Rattle.yt_log.specs.Plan.{its_task, deadline_of, IsLegal}
-use Rattle.yt_log.specs.Ticks.{Ticks, tick, done, first_tick}
+use Rattle.yt_log.specs.Ticks.{Ticks, tick, done}
 use Rattle.yt_log.specs.EdfDdm.{lowered, current_deadline}
 use Rattle.yt_log.specs.Heads.{item_at, item_of, TellsItem, IsHead, ran, Starts}
 use Rattle.yt_log.proofs.Ticks.{done-zero, done_yes, done_no, done_grows, first-suc_zero, first-suc}

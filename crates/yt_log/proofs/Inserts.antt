@@ -5,7 +5,7 @@ use Rattle.yt_set.specs.declared.task.Task.{Task}
 use Rattle.yt_log.specs.declared.plan.PlanItem.{PlanItem}
 use Rattle.yt_log.specs.Tasks.{Has, task_of}
 use Rattle.yt_log.specs.Plan.{its_task, jobs_of, IsLegalAfter}
-use Rattle.yt_log.specs.Order.{insert_by}
+use Rattle.yt_order.specs.Sorting.{insert_by}
 use Rattle.yt_log.specs.Patterns.{item_before}
 use Rattle.yt_log.proofs.Plans.{IsGood, jobs_of-cons}
 use Rattle.yt_log.proofs.Appends.{jobs_none}

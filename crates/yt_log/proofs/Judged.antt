@@ -1,5 +1,5 @@
 -- Judging items one after the other.
-use Rattle.std.proofs.Common.{◌≡◌, ℕ, zero, suc, ◌+◌, ◌-◌, ◌<◌, ◌≤◌, List, [], ◌∷◌, length, min, take, drop, replicate, set, get_or, slice_index, Option, Some, None, IfNone, IfSome, IsNone, ◌↔◌, ◌⊎◌, true, false, refl, sym, ap, subst, ◌∙◌, ⊎_elim, arith}
+use Rattle.std.proofs.Common.{◌≡◌, ℕ, zero, suc, ◌+◌, ◌-◌, ◌<◌, ◌≤◌, List, length, min, take, drop, replicate, set, get_or, slice_index, Option, Some, None, IfNone, IfSome, IsNone, ◌↔◌, true, false, refl, sym, ap, subst, ◌∙◌, ⊎_elim, arith}
 use Rattle.std.proofs.lemmas.Bool.{cases_Bool, cases_lt, cases_eq, cond-true, cond-false, both_ways, false_from_ne_true}
 use Rattle.std.proofs.lemmas.List.{take_rest, length-drop, length-take, length-replicate, get_or-take, get_or-replicate, get_or_past, length-set, get_or-set_same, get_or-set_other, get_or-drop}
 use Rattle.yt_set.specs.declared.task.Task.{Task}
@@ -9,16 +9,16 @@ use Rattle.yt_log.specs.declared.judge.miss.Miss.{Miss}
 use Rattle.yt_log.specs.declared.plan.PlanItem.{PlanItem}
 use Rattle.yt_log.specs.Tasks.{Has}
 use Rattle.yt_log.specs.Plan.{deadline_of, IsLegal}
-use Rattle.yt_log.specs.Ticks.{Ticks, tick, done, IsLawful, KeepsDeadlines, Misses}
-use Rattle.yt_log.specs.EdfDdm.{precedes}
+use Rattle.yt_log.specs.Ticks.{Ticks, tick, done, IsMiss, IsLawful, KeepsDeadlines, Misses}
+use Rattle.yt_order.specs.Words.{precedes}
 use Rattle.yt_log.specs.Segments.{segments_of}
-use Rattle.yt_log.specs.Judging.{IsMiss, miss_rank, IsFirstMiss}
+use Rattle.yt_log.specs.Judging.{miss_rank, IsFirstMiss}
 use Rattle.yt_log.specs.Heads.{item_at}
-use Rattle.yt_log.specs.Counts.{ticks_below, AreOrdered, IsNoLater, no_segment, segment_at, TellsMiss, Judges, Passes, IsShort, rank_of, sooner, IsFirstBelow, AreJudged}
+use Rattle.yt_log.specs.Counts.{ticks_below, AreOrdered, IsNoLater, no_segment, segment_at, TellsMiss, Judges, Passes, rank_of, sooner, IsFirstBelow, AreJudged}
 use Rattle.yt_log.proofs.Ticks.{done-zero, done_yes, done_no, tick_or_not}
 use Rattle.yt_log.proofs.Plans.{good_item, one_item}
-use Rattle.yt_log.proofs.Choices.{precedes_either, precedes_one_way}
-use Rattle.yt_log.proofs.Places.{IsAt, placed, has_place, follows}
+use Rattle.yt_order.proofs.Lemmas.{precedes_either, precedes_one_way}
+use Rattle.yt_log.proofs.Places.{placed, has_place, follows}
 use Rattle.yt_log.proofs.Counting.{ticks_below-drop, ordered_drop, done_is_ticks}
 
 -- the segments from a place on, as a slice of them
@@ -73,7 +73,7 @@ judged_left tasks segments n h due item within other is soon None none some =
 judged_left tasks segments n h due item within other is soon (Some miss) none some =
     let same = left_ticks segments n item.job due within other in
     let there : ticks_below segments item.job due ≡ ticks_below segments item.job (deadline_of tasks item) = ap (ticks_below segments item.job) is in
-    record { due = some.0 ∙ is; job = some.1; soon = omega arith; short = omega (arith, some.2) }
+    record { due = some.0 ∙ is; job = some.1; misses = record { due = omega arith; short = omega (arith, some.2) } }
 
 pub judged_late : (tasks : List Task) (segments : List Segment) (h : ℕ) (item : PlanItem) (result : Option Miss) → result ≡ None → h < deadline_of tasks item → Judges tasks segments h item result
 judged_late tasks segments h item result e late = let P : Option Miss → Type 0 = λ r. Judges tasks segments h item r in subst P (sym e) (λ soon. absurd (omega arith))
@@ -83,18 +83,21 @@ rank_told : (tasks : List Task) (item : PlanItem) (miss : Miss) → miss.due ≡
 unfolding miss_rank rank_of
 rank_told tasks item miss due job = cc
 
+true_ne_false : true ≡ false → ⊥
+true_ne_false e = cc
+
 module _ (tasks : List Task) (plan : List PlanItem) (log : Ticks) (h : ℕ) where
-  short_of : (item : PlanItem) (miss : Miss) → TellsMiss tasks (segments_of log) h item miss → IsShort tasks log h item
+  short_of : (item : PlanItem) (miss : Miss) → TellsMiss tasks (segments_of log) h item miss → IsMiss tasks (done log) h item
   short_of item miss told =
       let d = done_is_ticks log item.job (deadline_of tasks item) in
-      let s = told.short in
-      record { due = told.soon; short = omega arith }
+      let s = told.misses.short in
+      record { due = told.misses.due; short = omega arith }
 
   -- an item that doesn't miss leaves the first miss
   judged_none : (n : ℕ) (first : Option Miss) → AreJudged tasks plan log h n first → Judges tasks (segments_of log) h (item_at plan n) None → AreJudged tasks plan log h (n + 1) first
-  judged_none n None judged none = λ k lt short. ⊎_elim (λ (a : k < n). judged k a short) (λ (a : n ≤ k). not_short n none (let P : ℕ → Type 0 = λ m. IsShort tasks log h (item_at plan m) in subst P (omega arith) short)) (cases_lt k n)
+  judged_none n None judged none = λ k lt short. ⊎_elim (λ (a : k < n). judged k a short) (λ (a : n ≤ k). not_short n none (let P : ℕ → Type 0 = λ m. IsMiss tasks (done log) h (item_at plan m) in subst P (omega arith) short)) (cases_lt k n)
     where
-      not_short : (n : ℕ) → Judges tasks (segments_of log) h (item_at plan n) None → IsShort tasks log h (item_at plan n) → ⊥
+      not_short : (n : ℕ) → Judges tasks (segments_of log) h (item_at plan n) None → IsMiss tasks (done log) h (item_at plan n) → ⊥
       not_short n none short =
           let item = item_at plan n in
           let d = done_is_ticks log item.job (deadline_of tasks item) in
@@ -110,7 +113,7 @@ module _ (tasks : List Task) (plan : List PlanItem) (log : Ticks) (h : ℕ) wher
         due = judged.due;
         job = judged.job;
         first = λ k lt short. ⊎_elim (λ (a : k < n). judged.first k a short) (λ (a : n ≤ k).
-            let P : ℕ → Type 0 = λ m. IsShort tasks log h (item_at plan m) in
+            let P : ℕ → Type 0 = λ m. IsMiss tasks (done log) h (item_at plan m) in
             let late = subst P (omega arith) short in
             let item = item_at plan n in
             let d = done_is_ticks log item.job (deadline_of tasks item) in
@@ -193,34 +196,41 @@ module _ (tasks : List Task) (plan : List PlanItem) (log : Ticks) (h : ℕ) wher
   judged_more n (Some first) (Some miss) judged told = miss_at n first miss judged told
 
   -- where none misses
-  pub no_miss : AreJudged tasks plan log h (length plan) None → Misses tasks plan log h → ⊥
+  no_miss : AreJudged tasks plan log h (length plan) None → Misses tasks plan log h → ⊥
   no_miss judged m =
       let p = placed plan m.0 m.1 in
-      let P : PlanItem → Type 0 = λ i. IsShort tasks log h i in
-      judged p.place p.within (subst P (sym p.is) (record { due = m.2; short = m.3 }))
+      let P : PlanItem → Type 0 = λ i. IsMiss tasks (done log) h i in
+      judged p.place p.within (subst P (sym p.is) m.2)
 
   -- and where one does
-  pub first_of : (miss : Miss) → AreJudged tasks plan log h (length plan) (Some miss) → IsFirstMiss tasks plan log h miss.job
+  first_of : (miss : Miss) → AreJudged tasks plan log h (length plan) (Some miss) → IsFirstMiss tasks plan log h miss.job
   first_of miss judged =
       let item = item_at plan judged.place in
       let r = rank_told tasks item miss judged.due judged.job in
       record {
         item = item;
         named = sym judged.job;
-        misses = record { has = has_place plan judged.place judged.below; due = judged.short.due; short = judged.short.short };
-        first = λ other m.
-            let p = placed plan other m.has in
-            let P : PlanItem → Type 0 = λ i. IsShort tasks log h i in
+        has = has_place plan judged.place judged.below;
+        misses = judged.short;
+        first = λ other has m.
+            let p = placed plan other has in
+            let P : PlanItem → Type 0 = λ i. IsMiss tasks (done log) h i in
             let Q : PlanItem → Type 0 = λ i. precedes (miss_rank tasks i) (miss_rank tasks item) ≡ false in
             let R : List ℕ → Type 0 = λ x. precedes (miss_rank tasks (item_at plan p.place)) x ≡ false in
-            subst Q p.is (subst R (sym r) (judged.first p.place p.within (subst P (sym p.is) (record { due = m.due; short = m.short }))));
+            subst Q p.is (subst R (sym r) (judged.first p.place p.within (subst P (sym p.is) m)));
       }
 
-  pub a_miss : (job : Job) → IsFirstMiss tasks plan log h job → Misses tasks plan log h
-  a_miss job f = let m = f.misses in (f.item, m.has, m.due, m.short)
+  a_miss : (job : Job) → IsFirstMiss tasks plan log h job → Misses tasks plan log h
+  a_miss job f = (f.item, f.has, f.misses)
+
+  -- the deadline of the items of the job that misses first
+  due_of_first : IsLegal tasks plan → (miss : Miss) → AreJudged tasks plan log h (length plan) (Some miss) → (item : PlanItem) → Has plan item → item.job ≡ miss.job → miss.due ≡ deadline_of tasks item
+  due_of_first legal miss judged item has named =
+      let here = item_at plan judged.place in
+      judged.due ∙ ap (λ (i : PlanItem). deadline_of tasks i) (one_item tasks plan legal here item (has_place plan judged.place judged.below) has (sym judged.job ∙ sym named))
 
   -- a lawful log gives no job more than it costs
-  pub lawful_most : IsLegal tasks plan → IsLawful plan log → (item : PlanItem) → Has plan item → (t : ℕ) → done log item.job t ≤ item.cost
+  lawful_most : IsLegal tasks plan → IsLawful plan log → (item : PlanItem) → Has plan item → (t : ℕ) → done log item.job t ≤ item.cost
   lawful_most legal lawful item has zero = let z = done-zero log item.job in omega arith
   lawful_most legal lawful item has (suc t) =
       ⊎_elim
@@ -234,16 +244,34 @@ module _ (tasks : List Task) (plan : List PlanItem) (log : Ticks) (h : ℕ) wher
       (λ (never : tick log t ≡ Some item.job → ⊥). let s = done_no log item.job t never in let rest = lawful_most legal lawful item has t in omega arith)
       (tick_or_not log item.job t)
 
-  pub keeps_where_no_miss : IsLegal tasks plan → IsLawful plan log → (Misses tasks plan log h → ⊥) → KeepsDeadlines tasks plan log h
+  keeps_where_no_miss : IsLegal tasks plan → IsLawful plan log → (Misses tasks plan log h → ⊥) → KeepsDeadlines tasks plan log h
   keeps_where_no_miss legal lawful none item has due =
       let most = lawful_most legal lawful item has (deadline_of tasks item) in
       ⊎_elim
-      (λ (short : done log item.job (deadline_of tasks item) < item.cost). absurd (none (item, has, due, short)))
+      (λ (short : done log item.job (deadline_of tasks item) < item.cost). absurd (none (item, has, record { due = due; short = short })))
       (λ (all : item.cost ≤ done log item.job (deadline_of tasks item)). omega arith)
       (cases_lt (done log item.job (deadline_of tasks item)) item.cost)
 
-  pub no_miss_where_kept : KeepsDeadlines tasks plan log h → Misses tasks plan log h → ⊥
-  no_miss_where_kept keeps m = let k = keeps m.0 m.1 m.2 in let s = m.3 in omega arith
+  no_miss_where_kept : KeepsDeadlines tasks plan log h → Misses tasks plan log h → ⊥
+  no_miss_where_kept keeps m = let k = keeps m.0 m.1 m.2.due in let s = m.2.short in omega arith
+
+  -- what the first miss of all items tells
+
+  pub told_first : (first : Option Miss) → AreJudged tasks plan log h (length plan) first → IfSome first (λ miss. IsFirstMiss tasks plan log h miss.job)
+  told_first None judged = tt
+  told_first (Some miss) judged = first_of miss judged
+
+  pub told_due : IsLegal tasks plan → (first : Option Miss) → AreJudged tasks plan log h (length plan) first → IfSome first (λ miss. (item : PlanItem) → Has plan item → item.job ≡ miss.job → miss.due ≡ deadline_of tasks item)
+  told_due legal None judged = tt
+  told_due legal (Some miss) judged = λ item has named. due_of_first legal miss judged item has named
+
+  pub told_none : (first : Option Miss) → AreJudged tasks plan log h (length plan) first → IsNone first ↔ (Misses tasks plan log h → ⊥)
+  told_none None judged = (λ e. no_miss judged, λ none. refl)
+  told_none (Some miss) judged = (λ e. absurd (true_ne_false e), λ none. absurd (none (a_miss miss.job (first_of miss judged))))
+
+  pub told_keeps : IsLegal tasks plan → (first : Option Miss) → AreJudged tasks plan log h (length plan) first → IsLawful plan log → IsNone first ↔ KeepsDeadlines tasks plan log h
+  told_keeps legal None judged lawful = (λ e. keeps_where_no_miss legal lawful (no_miss judged), λ keeps. refl)
+  told_keeps legal (Some miss) judged lawful = (λ e. absurd (true_ne_false e), λ keeps. absurd (no_miss_where_kept keeps (a_miss miss.job (first_of miss judged))))
 
 -- for each task so many segments in front that no item from a place on is named in
 pub record AreAhead (tasks : List Task) (plan : List PlanItem) (segments : List Segment) (n : ℕ) (seen : List ℕ) : Type 0 where

@@ -1,15 +1,16 @@
 -- A set that fits keeps its deadlines.
-use Rattle.std.proofs.Common.{◌≡◌, ℕ, ◌-◌, ◌<◌, ◌≤◌, List, length, refl, ⊎_elim, arith}
+use Rattle.std.proofs.Common.{◌≡◌, ℕ, ◌-◌, ◌<◌, ◌≤◌, List, Option, length, refl, sym, subst, ⊎_elim, arith}
+use Rattle.std.specs.Prelude.{IsSomeAnd}
 use Rattle.std.proofs.lemmas.Bool.{cases_lt}
 use Rattle.yt_set.specs.declared.task.Task.{Task}
-use Rattle.yt_set.specs.Tasks.{IsTaskSet, FitsLoad, FitsInterval, LeavesRoom}
+use Rattle.yt_set.specs.Tasks.{IsTaskSet, FitsLoad, FitsInterval, LeavesRoom, need_of}
 use Rattle.yt_log.specs.declared.plan.PlanItem.{PlanItem}
 use Rattle.yt_log.specs.Plan.{deadline_of, IsLegal}
 use Rattle.yt_log.specs.Ticks.{Ticks, done, KeepsDeadlines}
 use Rattle.yt_log.specs.EdfDdm.{IsEdfDdm}
 use Rattle.yt_log.specs.Laws.{FitsKeeps, FreeFitsKeeps}
 use Rattle.yt_log.proofs.Forms.{AreUsable, usable, has_all, demand, demand_is}
-use Rattle.yt_log.proofs.Floors.{BlockingFits, floor_at, floor_some}
+use Rattle.yt_log.proofs.Floors.{BlockingFits, floor_some}
 use Rattle.yt_log.proofs.Periods.{every_demand}
 use Rattle.yt_log.proofs.Runs.{capped}
 use Rattle.yt_log.proofs.BusyIntervals.{no_miss}
@@ -32,9 +33,12 @@ demands tasks set loads t some = let a = every_demand tasks set loads t in let b
 rooms : (tasks : List Task) → FitsInterval tasks → BlockingFits tasks
 rooms tasks intervals = λ task is held span above below.
     let room : LeavesRoom tasks task = has_all (LeavesRoom tasks) tasks intervals task is in
-    let l = room (floor_at tasks task) span (floor_some tasks task is held) above below in
     let d = demand_is tasks (span - 1) in
-    omega arith
+    let over = subst (λ (o : Option ℕ). IsSomeAnd o (λ n. n < span)) (sym (floor_some tasks task is held)) above in
+    ⊎_elim
+    (λ (l : span < need_of tasks task span). absurd (room span (over, below, l)))
+    (λ (l : need_of tasks task span ≤ span). omega arith)
+    (cases_lt span (need_of tasks task span))
 
 pub fits_keeps : FitsKeeps
 fits_keeps tasks set fits = keeps tasks (usable tasks set) (demands tasks set fits.loads) (rooms tasks fits.intervals)

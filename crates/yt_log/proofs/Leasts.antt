@@ -1,26 +1,16 @@
 -- The rule's one choice.
-use Rattle.std.proofs.Common.{◌≡◌, ℕ, ◌<◌, ◌⊎◌, true, List, [], ◌∷◌, Option, Some, None, refl, sym, ap, ◌∙◌, ⊎_elim}
-use Rattle.std.proofs.lemmas.Bool.{cases_order, both_ways}
+use Rattle.std.proofs.Common.{◌≡◌, ℕ, List, Option, Some, None, refl, ap, ◌∙◌}
+use Rattle.std.proofs.lemmas.Bool.{both_ways}
 use Rattle.yt_set.specs.declared.task.Task.{Task}
 use Rattle.yt_log.specs.declared.job.Job.{Job}
 use Rattle.yt_log.specs.declared.plan.PlanItem.{PlanItem}
 use Rattle.yt_log.specs.Tasks.{Has}
 use Rattle.yt_log.specs.Ticks.{Ticks, IsWaiting}
-use Rattle.yt_log.specs.EdfDdm.{rank, precedes, waits, least, job_of, choice, ComesFirst}
+use Rattle.yt_log.specs.EdfDdm.{rank, waits, least, job_of, choice, ComesFirst}
+use Rattle.yt_order.specs.Words.{precedes}
 use Rattle.yt_log.specs.Laws.{RuleIsLeast}
-use Rattle.yt_log.proofs.Choices.{precedes_less, precedes_same, waits_true, waits_from, IsLeast, least_is}
-
--- of two lists one precedes the other, or they are one
-precedes_total : (xs ys : List ℕ) → (precedes xs ys ≡ true → ⊥) → (precedes ys xs ≡ true → ⊥) → xs ≡ ys
-unfolding precedes
-precedes_total [] [] h k = refl
-precedes_total [] (y ∷ ys) h k = absurd (h refl)
-precedes_total (x ∷ xs) [] h k = absurd (k refl)
-precedes_total (x ∷ xs) (y ∷ ys) h k =
-    ⊎_elim
-    (λ (e : x ≡ y). let r = precedes_total xs ys (λ p. h (precedes_same x y xs ys e p)) (λ p. k (precedes_same y x ys xs (sym e) p)) in cc)
-    (λ (o : (x < y) ⊎ (y < x)). ⊎_elim (λ (l : x < y). absurd (h (precedes_less x y xs ys l))) (λ (l : y < x). absurd (k (precedes_less y x ys xs l))) o)
-    (cases_order x y)
+use Rattle.yt_log.proofs.Choices.{waits_true, waits_from, IsLeast, least_is}
+use Rattle.yt_order.proofs.Lemmas.{precedes_total}
 
 rank_job : (tasks : List Task) (log : Ticks) (t : ℕ) (a b : PlanItem) → rank tasks log t a ≡ rank tasks log t b → a.job ≡ b.job
 unfolding rank

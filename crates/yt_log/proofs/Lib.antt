@@ -1,45 +1,47 @@
-pub mod Appends
-pub mod Blockers
-pub mod BusyIntervals
-pub mod Capacity
-pub mod Choices
-pub mod Costs
-pub mod Counting
-pub mod Demands
-pub mod Exact
-pub mod Examples
-pub mod Exclusions
-pub mod FirstBreaks
-pub mod Floors
-pub mod Following
-pub mod Forms
-pub mod Growing
-pub mod HeadChoices
-pub mod HeadRuns
-pub mod HeadSteps
-pub mod Members
-pub mod Inserts
-pub mod Jobs
-pub mod Judged
-pub mod Keeping
-pub mod LastItems
-pub mod Leasts
-pub mod Made
-pub mod Multiples
-pub mod Overloads
-pub mod PatternPlans
-pub mod Periods
-pub mod Places
-pub mod PlanJudging
-pub mod NameNumbers
-pub mod PlanOrder
-pub mod PlanReads
-pub mod Plans
-pub mod Reading
-pub mod Runs
-pub mod Searches
-pub mod SegmentLemmas
-pub mod SegmentLists
-pub mod Tells
-pub mod Ticks
-pub mod Totals
+pub mod Lemmas
+mod Appends
+mod Blockers
+mod BusyIntervals
+mod Capacity
+mod Choices
+mod Costs
+mod Counting
+mod Demands
+mod Exact
+mod Examples
+mod Exclusions
+mod FirstBreaks
+mod Floors
+mod Following
+mod Forms
+mod Growing
+mod HeadChoices
+mod HeadRuns
+mod HeadSteps
+mod Members
+mod Inserts
+mod Jobs
+mod Judged
+mod Keeping
+mod LastItems
+mod Leasts
+mod Made
+mod Multiples
+mod NameTables
+mod Overloads
+mod PatternPlans
+mod Periods
+mod Places
+mod PlanFaults
+mod PlanJudging
+mod PlanOrder
+mod PlanReads
+mod Plans
+mod Reading
+mod Runs
+mod Searches
+mod SegmentLemmas
+mod SegmentLists
+mod Tells
+mod Ticks
+mod Totals

@@ -1,7 +1,7 @@
 -- What lists have: one behind another, and put in order.
 use Rattle.std.proofs.Common.{◌≡◌, ◌⊎◌, Bool, true, false, List, [], ◌∷◌, ◌++◌, refl, sym, subst, inl, inr, ⊎_elim}
 use Rattle.std.proofs.lemmas.Bool.{cases_Bool, cond-true, cond-false}
-use Rattle.yt_log.specs.Order.{insert_by, sort_by}
+use Rattle.yt_order.specs.Sorting.{insert_by, sort_by}
 use Rattle.yt_log.specs.Tasks.{Has}
 
 pub has_left : {X : Type 0} (xs ys : List X) (x : X) → Has xs x → Has (xs ++ ys) x

@@ -1,11 +1,11 @@
 -- The plan of a pattern is legal, and has each of its jobs.
-use Rattle.std.proofs.Common.{◌≡◌, ℕ, zero, suc, ◌+◌, ◌*◌, ◌<◌, ◌≤◌, ◌⊎◌, true, false, cond, eqb, List, [], ◌∷◌, ◌++◌, length, get_or, refl, sym, ap, subst, ◌∙◌, inl, inr, ⊎_elim, arith, eq-eqb, ne_eqb}
+use Rattle.std.proofs.Common.{◌≡◌, ℕ, zero, suc, ◌+◌, ◌*◌, ◌<◌, ◌≤◌, true, false, cond, eqb, List, [], ◌∷◌, ◌++◌, length, get_or, refl, sym, ap, subst, ◌∙◌, ⊎_elim, arith, eq-eqb, ne_eqb}
 use Rattle.std.proofs.lemmas.Bool.{cases_Bool, cases_eq, cond-true, cond-false}
 use Rattle.yt_set.specs.declared.task.Task.{Task}
 use Rattle.yt_log.specs.declared.plan.PlanItem.{PlanItem}
 use Rattle.yt_log.specs.Tasks.{Has, task_of, no_task}
 use Rattle.yt_log.specs.Plan.{its_task, jobs_of, IsLegal}
-use Rattle.yt_log.specs.Order.{insert_by, sort_by}
+use Rattle.yt_order.specs.Sorting.{insert_by, sort_by}
 use Rattle.yt_log.specs.Patterns.{Arrivals, jobs_arriving, all_arriving, item_before, pattern_plan, arrivals_from}
 use Rattle.yt_log.proofs.Forms.{IsUsable, AreUsable}
 use Rattle.yt_log.proofs.Plans.{IsGood, jobs_of-cons}

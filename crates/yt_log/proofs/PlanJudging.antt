@@ -1,6 +1,6 @@
 -- Judging a plan item by item.
 use Rattle.std.proofs.Common.{◌≡◌, ℕ, zero, suc, ◌+◌, ◌-◌, ◌<◌, ◌≤◌, ◌⊎◌, Bool, true, false, ◌&&◌, ◌||◌, eqb, leb, List, [], ◌∷◌, length, slice_get, get_or, take, drop, reverse, Some, refl, sym, ap, ap₂, subst, ◌∙◌, ⊎_elim, inl, inr, arith, eq-eqb, eqb-true}
-use Rattle.std.proofs.lemmas.Bool.{cases_Bool, cases_eq, and_parts, and_from, or_left, or_right, leb-true, le-leb, ne_eqb}
+use Rattle.std.proofs.lemmas.Bool.{and_parts, and_from, or_left, or_right, leb-true, le-leb}
 use Rattle.std.proofs.lemmas.Option.{get_or_from_slice_get}
 use Rattle.std.proofs.lemmas.List.{take_more, drop_more, reverse-append}
 use Rattle.std.proofs.lemmas.List.Elements.{All-nil, All-cons, All-head, All-tail}
@@ -9,7 +9,7 @@ use Rattle.yt_set.specs.declared.task.Task.{Task}
 use Rattle.yt_log.specs.declared.plan.PlanItem.{PlanItem}
 use Rattle.yt_log.specs.declared.last_jobs.LastJob.{LastJob}
 use Rattle.yt_log.specs.Tasks.{Has}
-use Rattle.yt_log.specs.Plan.{its_task, jobs_of, IsNext, IsLegalAfter, IsLegal, IsLegalPlan, ArriveFrom}
+use Rattle.yt_log.specs.Plan.{its_task, jobs_of, IsNext, IsLegalAfter, IsLegalPlan, ArriveFrom}
 use Rattle.yt_log.specs.LastJobs.{last_of, last_job, AreLast, may_follow, may_come}
 use Rattle.yt_log.proofs.LastItems.{task_at, last_item, IsNewest, newest_more, counted_item}
 

@@ -1,18 +1,18 @@
 -- Plans as their texts are read.
-use Rattle.std.proofs.Common.{◌≡◌, ℕ, zero, suc, ◌+◌, ◌-◌, ◌<◌, ◌≤◌, ◌⊎◌, ◌^◌, min, Bool, true, false, ◌&&◌, ◌||◌, not, cond, eqb, leb, ltb, List, [], ◌∷◌, ◌++◌, length, reverse, slice_get, Some, None, IfSome, Option, Err, Ok, Result, refl, sym, ap, ap₂, subst, ◌∙◌, ⊎_elim, inl, inr, arith, bytes_eq, append_assoc}
-use Rattle.std.proofs.lemmas.Bool.{cases_Bool, cases_lt, cond-true, cond-false, and_from, and_parts, and_left, and_right, or_left, or_right, not_from_false, not_from_true, le-leb, leb-true, lt-leb, lt-ltb, eq-eqb}
+use Rattle.std.proofs.Common.{◌≡◌, ℕ, ◌+◌, ◌-◌, ◌<◌, ◌≤◌, ◌^◌, min, Bool, true, false, ◌&&◌, ◌||◌, not, cond, eqb, leb, ltb, List, [], ◌∷◌, ◌++◌, length, reverse, slice_get, Some, None, IfSome, Option, Err, refl, sym, ap, ap₂, subst, ◌∙◌, ⊎_elim, arith, append_assoc}
+use Rattle.std.proofs.lemmas.Bool.{cases_Bool, cases_lt, cond-true, cond-false, and_from, and_parts, and_right, or_left, or_right, not_from_false, not_from_true, le-leb, leb-true, lt-leb, lt-ltb, eq-eqb}
 use Rattle.std.proofs.lemmas.Option.{get_or_from_slice_get}
 use Rattle.std.proofs.lemmas.List.{reverse-append, append-nil, length-reverse}
 use Rattle.std.proofs.lemmas.List.Elements.{All-nil, All-cons, All-append}
-use Rattle.std.specs.List.{All, position_from}
+use Rattle.std.specs.List.{position_from}
 use Rattle.yt_set.specs.declared.task.Task.{Task}
 use Rattle.yt_set.specs.Tasks.{IsTask, IsTaskSet}
 use Rattle.yt_log.specs.declared.plan.PlanItem.{PlanItem}
 use Rattle.yt_log.specs.declared.last_jobs.LastJob.{LastJob}
 use Rattle.yt_log.specs.declared.item_fault.ItemFault.{ItemFault}
-use Rattle.yt_log.specs.declared.item_fault.ItemFault.TheVariants.{Cost, Late, Order, Soon, Many}
+use Rattle.yt_log.specs.declared.item_fault.ItemFault.TheVariants.{Cost, Late}
 use Rattle.yt_log.specs.Tasks.{Has, task_of}
-use Rattle.yt_log.specs.Plan.{its_task, jobs_of, IsNext, IsLegalAfter, IsLegal, IsLegalPlan, last_from, last_arrival}
+use Rattle.yt_log.specs.Plan.{jobs_of, IsNext, IsLegalAfter, IsLegal, IsLegalPlan, last_from, last_arrival}
 use Rattle.yt_log.specs.LastJobs.{last_of, last_job, least_arrival, AreLast, may_follow, may_come}
 use Rattle.yt_base.specs.Digits.{is_digits, value_of}
 use Rattle.yt_set.specs.NamedTasks.{NamedTasks}
@@ -198,12 +198,6 @@ position_in test i (x ∷ xs) = by (test x) (position_in test (i + 1) xs)
         weaker (λ n. (i + 1 ≤ n) × (n < i + 1 + length xs)) (λ n. (i ≤ n) × (n < i + length (x ∷ xs)))
         (λ n p. let low = p.0 in let high = p.1 in (omega arith, omega arith))
         (position_from test (i + 1) xs) rest
-
--- a task that is found by its name is in the set
-pub named_in_set : (labels : List (List ℕ)) (count : ℕ) (name : List ℕ) (o : Option ℕ) → length labels ≡ count → o ≡ task_named labels name → IfSome o (λ n. (1 ≤ n) × (n ≤ count))
-named_in_set labels count name o long is =
-    weaker (λ n. (1 ≤ n) × (n < 1 + length labels)) (λ n. (1 ≤ n) × (n ≤ count)) (λ n p. let low = p.0 in let high = p.1 in (low, omega arith)) o
-    (subst (λ (q : Option ℕ). IfSome q (λ n. (1 ≤ n) × (n < 1 + length labels))) (sym is) (position_in (bytes_eq name) 1 labels))
 
 below : {m n o : ℕ} → m ≤ n → n ≤ o → m ≤ o
 below a b = omega arith

@@ -6,8 +6,8 @@ use Rattle.yt_log.specs.declared.job.Segment.{Segment}
 use Rattle.yt_log.specs.declared.judge.miss.Miss.{Miss}
 use Rattle.yt_log.specs.declared.plan.PlanItem.{PlanItem}
 use Rattle.yt_log.specs.Plan.{same_job, deadline_of}
-use Rattle.yt_log.specs.Ticks.{Ticks, done}
-use Rattle.yt_log.specs.EdfDdm.{precedes}
+use Rattle.yt_log.specs.Ticks.{Ticks, IsMiss, done}
+use Rattle.yt_order.specs.Words.{precedes}
 use Rattle.yt_log.specs.Segments.{AreInOrder}
 use Rattle.yt_log.specs.Judging.{miss_rank}
 use Rattle.yt_log.specs.Heads.{item_at}
@@ -37,17 +37,11 @@ segment_at segments place = get_or segments place no_segment
 abbrev pub IsNoLater : Job → Segment → Type 0
 IsNoLater job segment = segment.job.task ≡ job.task → segment.job.number ≤ job.number
 
--- an item that is due by h is not done by its deadline
-pub record IsShort (tasks : List Task) (log : Ticks) (h : ℕ) (item : PlanItem) : Type 0 where
-  pub due : deadline_of tasks item ≤ h
-  pub short : done log item.job (deadline_of tasks item) < item.cost
-
--- what a miss is told to be: the item's
+-- what a miss is told to be: the item's, as the segments count its job's ticks
 pub record TellsMiss (tasks : List Task) (segments : List Segment) (h : ℕ) (item : PlanItem) (miss : Miss) : Type 0 where
   pub due : miss.due ≡ deadline_of tasks item
   pub job : miss.job ≡ item.job
-  pub soon : deadline_of tasks item ≤ h
-  pub short : ticks_below segments item.job (deadline_of tasks item) < item.cost
+  pub misses : IsMiss tasks (ticks_below segments) h item
 
 -- an item's miss, where it is due by h and the segments give it less than it costs below its deadline
 abbrev pub Judges : List Task → List Segment → ℕ → PlanItem → Option Miss → Type 0
@@ -75,12 +69,12 @@ sooner (Some miss) (Some next) = if precedes (rank_of next) (rank_of miss) then 
 pub record IsFirstBelow (tasks : List Task) (plan : List PlanItem) (log : Ticks) (h n : ℕ) (miss : Miss) : Type 0 where
   pub place : ℕ
   pub below : place < n
-  pub short : IsShort tasks log h (item_at plan place)
+  pub short : IsMiss tasks (done log) h (item_at plan place)
   pub due : miss.due ≡ deadline_of tasks (item_at plan place)
   pub job : miss.job ≡ (item_at plan place).job
-  pub first : (k : ℕ) → k < n → IsShort tasks log h (item_at plan k) → precedes (miss_rank tasks (item_at plan k)) (rank_of miss) ≡ false
+  pub first : (k : ℕ) → k < n → IsMiss tasks (done log) h (item_at plan k) → precedes (miss_rank tasks (item_at plan k)) (rank_of miss) ≡ false
 
 -- the first miss of the items at the first n places, none where none misses
 abbrev pub AreJudged : List Task → List PlanItem → Ticks → ℕ → ℕ → Option Miss → Type 0
-AreJudged tasks plan log h n None = (k : ℕ) → k < n → IsShort tasks log h (item_at plan k) → ⊥
+AreJudged tasks plan log h n None = (k : ℕ) → k < n → IsMiss tasks (done log) h (item_at plan k) → ⊥
 AreJudged tasks plan log h n (Some miss) = IsFirstBelow tasks plan log h n miss

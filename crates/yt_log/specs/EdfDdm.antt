@@ -1,5 +1,6 @@
 -- Earliest deadline first with dynamic deadline modification: the deadline of a job under a resource may be lowered once it has begun.
-use Rattle.std.specs.Prelude.{◌≡◌, ℕ, zero, suc, ◌+◌, ◌<◌, ◌==◌, ◌&&◌, ◌||◌, min, Bool, true, false, nat_lt, nat_le, List, [], ◌∷◌, ◌++◌, Option, Some, None, length, if◌then◌else◌}
+use Rattle.std.specs.Prelude.{◌≡◌, ℕ, zero, suc, ◌+◌, ◌<◌, ◌==◌, ◌&&◌, min, Bool, false, nat_lt, nat_le, List, [], ◌∷◌, ◌++◌, Option, Some, None, length, if◌then◌else◌}
+use Rattle.yt_order.specs.Words.{precedes}
 use Rattle.yt_set.specs.declared.task.Task.{Task}
 use Rattle.yt_set.specs.Tasks.{floor_of}
 use Rattle.yt_log.specs.declared.job.Job.{Job}
@@ -24,13 +25,6 @@ current_deadline tasks log t item =
 unfoldable pub rank : List Task → Ticks → ℕ → PlanItem → List ℕ
 rank tasks log t item =
     current_deadline tasks log t item ∷ (if done log item.job t == 0 then 1 else 0) ∷ item.arrival ∷ item.job.task ∷ item.job.number ∷ []
-
--- xs comes before ys in the order of words
-unfoldable pub precedes : List ℕ → List ℕ → Bool
-precedes [] [] = false
-precedes [] (y ∷ ys) = true
-precedes (x ∷ xs) [] = false
-precedes (x ∷ xs) (y ∷ ys) = nat_lt x y || ((x == y) && precedes xs ys)
 
 -- an item has arrived at t and is not done
 unfoldable pub waits : Ticks → ℕ → PlanItem → Bool

@@ -7,7 +7,8 @@ use Rattle.yt_log.specs.declared.plan.PlanItem.{PlanItem}
 use Rattle.yt_log.specs.declared.judge.heads.Head.{Head}
 use Rattle.yt_log.specs.Ticks.{Ticks, done}
 use Rattle.yt_log.specs.Plan.{its_task, deadline_of}
-use Rattle.yt_log.specs.EdfDdm.{lowered, current_deadline, precedes}
+use Rattle.yt_log.specs.EdfDdm.{lowered, current_deadline}
+use Rattle.yt_order.specs.Words.{precedes}
 
 -- what stands for an item outside the plan
 abbrev pub no_item : PlanItem

@@ -1,5 +1,5 @@
 -- Judging logs: the first miss, and the first tick at which a log breaks a rule.
-use Rattle.std.specs.Prelude.{◌≡◌, ℕ, ◌<◌, ◌≤◌, false, List, [], ◌∷◌, Some, None, length}
+use Rattle.std.specs.Prelude.{◌≡◌, ℕ, ◌<◌, false, List, [], ◌∷◌, Some, None, length}
 use Rattle.yt_set.specs.declared.task.Task.{Task}
 use Rattle.yt_log.specs.declared.job.Job.{Job}
 use Rattle.yt_log.specs.declared.plan.PlanItem.{PlanItem}
@@ -8,14 +8,9 @@ use Rattle.yt_log.specs.declared.judge.broken.Rule.{Rule}
 use Rattle.yt_log.specs.declared.judge.broken.Rule.TheVariants.{Unlawful, Idle, Shared, NotLeast}
 use Rattle.yt_log.specs.Tasks.{Has}
 use Rattle.yt_log.specs.Plan.{its_task, deadline_of}
-use Rattle.yt_log.specs.Ticks.{Ticks, tick, done, IsWaiting, IsActive, IsLawful, IsWorkConserving, IsExclusive}
-use Rattle.yt_log.specs.EdfDdm.{precedes, choice, IsEdfDdm}
-
--- an item that is due by h and is not done by its deadline
-pub record IsMiss (tasks : List Task) (plan : List PlanItem) (log : Ticks) (h : ℕ) (item : PlanItem) : Type 0 where
-  pub has : Has plan item
-  pub due : deadline_of tasks item ≤ h
-  pub short : done log item.job (deadline_of tasks item) < item.cost
+use Rattle.yt_log.specs.Ticks.{Ticks, tick, done, IsMiss, IsWaiting, IsActive, IsLawful, IsWorkConserving, IsExclusive}
+use Rattle.yt_log.specs.EdfDdm.{choice, IsEdfDdm}
+use Rattle.yt_order.specs.Words.{precedes}
 
 -- what misses go by, first to last: the deadline; the task; the number
 unfoldable pub miss_rank : List Task → PlanItem → List ℕ
@@ -25,8 +20,9 @@ miss_rank tasks item = deadline_of tasks item ∷ item.job.task ∷ item.job.num
 pub record IsFirstMiss (tasks : List Task) (plan : List PlanItem) (log : Ticks) (h : ℕ) (job : Job) : Type 0 where
   pub item : PlanItem
   pub named : item.job ≡ job
-  pub misses : IsMiss tasks plan log h item
-  pub first : (other : PlanItem) → IsMiss tasks plan log h other → precedes (miss_rank tasks other) (miss_rank tasks item) ≡ false
+  pub has : Has plan item
+  pub misses : IsMiss tasks (done log) h item
+  pub first : (other : PlanItem) → Has plan other → IsMiss tasks (done log) h other → precedes (miss_rank tasks other) (miss_rank tasks item) ≡ false
 
 -- a job waits: an item of it does
 abbrev pub JobWaits : List PlanItem → Ticks → ℕ → Job → Type 0

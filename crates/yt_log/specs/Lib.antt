@@ -5,7 +5,7 @@ pub mod Heads
 pub mod Judging
 pub mod LastJobs
 pub mod Laws
-pub mod Order
+pub mod Limits
 pub mod Patterns
 pub mod Plan
 pub mod PlanReading

@@ -6,7 +6,7 @@ use Rattle.yt_log.specs.declared.plan.PlanItem.{PlanItem}
 use Rattle.yt_log.specs.Tasks.{task_of}
 use Rattle.yt_log.specs.Plan.{IsLegal}
 use Rattle.yt_log.specs.Ticks.{Ticks, IsLawful, IsWorkConserving, IsExclusive, Misses}
-use Rattle.yt_log.specs.Order.{sort_by}
+use Rattle.yt_order.specs.Sorting.{sort_by}
 
 -- the jobs of a task: so many of one cost, the first at a tick, each later one a step after the one before
 pub record Arrivals : Type 0 where

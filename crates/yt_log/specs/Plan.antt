@@ -5,6 +5,7 @@ use Rattle.yt_set.specs.declared.task.Task.{Task}
 use Rattle.yt_set.specs.Tasks.{within}
 use Rattle.yt_log.specs.declared.job.Job.{Job}
 use Rattle.yt_log.specs.declared.plan.PlanItem.{PlanItem}
+use Rattle.yt_log.specs.Limits.{most_arrival}
 use Rattle.yt_log.specs.Tasks.{Has, task_of}
 
 unfoldable pub same_job : Job → Job → Bool
@@ -60,10 +61,10 @@ last_from t (item ∷ items) = last_from item.arrival items
 abbrev pub last_arrival : List PlanItem → ℕ
 last_arrival plan = last_from 0 plan
 
--- a legal plan whose items arrive by tick 8,000,000
+-- a legal plan whose items arrive by the last tick at which they may
 pub record IsLegalPlan (tasks : List Task) (plan : List PlanItem) : Type 0 where
   pub legal : IsLegal tasks plan
-  pub early : All (λ item. item.arrival ≤ 8000000) plan
+  pub early : All (λ item. item.arrival ≤ most_arrival) plan
 
 -- the greatest deadline of the items; 0 where there are none
 abbrev pub horizon : List Task → List PlanItem → ℕ

@@ -1,6 +1,5 @@
 -- What the steps of reading a plan's text answer.
-use Rattle.std.specs.Prelude.{◌≡◌, ℕ, ◌-◌, ◌^◌, ◌<◌, ◌≤◌, min, List, Option, Some, None, Err, length, bytes_eq, reverse, if◌then◌else◌}
-use Rattle.indexmap.specs.IndexMap.{get_by}
+use Rattle.std.specs.Prelude.{◌≡◌, ℕ, ◌-◌, ◌^◌, ◌<◌, ◌≤◌, min, List, Err, length, reverse}
 use Rattle.yt_base.specs.Digits.{value_of}
 use Rattle.yt_base.specs.Files.{after_line}
 use Rattle.yt_set.specs.declared.task.Task.{Task}
@@ -8,15 +7,15 @@ use Rattle.yt_set.specs.NamedTasks.{NamedTasks}
 use Rattle.yt_set.specs.Tasks.{IsTaskSet}
 use Rattle.yt_log.specs.declared.plan.PlanItem.{PlanItem}
 use Rattle.yt_log.specs.declared.last_jobs.LastJob.{LastJob}
-use Rattle.yt_log.specs.declared.numbers.Numbers.{Numbers}
 use Rattle.yt_log.specs.declared.item_line.ItemLine.{ItemLine}
 use Rattle.yt_log.specs.declared.item_fault.ItemFault.{ItemFault}
 use Rattle.yt_log.specs.declared.item_fault.ItemFault.TheVariants as item
 use Rattle.yt_log.specs.declared.read.PlanFault.{PlanFault}
 use Rattle.yt_log.specs.declared.read.PlanFault.TheVariants.{Form, Unknown, Cost, Late, Order, Soon, Many, Memory}
+use Rattle.yt_log.specs.Limits.{most_read_arrival, most_read_jobs}
 use Rattle.yt_log.specs.Plan.{IsLegalPlan}
 use Rattle.yt_log.specs.LastJobs.{AreLast, least_arrival}
-use Rattle.yt_log.specs.PlanText.{ItemTexts, task_named, judged, plan_of}
+use Rattle.yt_log.specs.PlanText.{ItemTexts, judged, plan_of}
 
 -- the texts of a line's fields
 abbrev pub texts_of : ItemLine → ItemTexts
@@ -26,29 +25,20 @@ texts_of line = record { arrival = line.arrival.now; task = line.task.now; cost 
 abbrev pub capped : List ℕ → ℕ
 capped text = min (value_of text) (2 ^ 64 - 1)
 
--- the number that names were given with, each the first time
-abbrev pub number_in : Numbers → List ℕ → Option ℕ
-number_in numbers name = get_by (λ k. bytes_eq name k.now) numbers.map
-
--- the number of a name where one more is given: what it had, else the new one where it is the new name
-abbrev pub or_given : Option ℕ → List ℕ → List ℕ → ℕ → Option ℕ
-or_given (Some n) name new number = Some n
-or_given None name new number = if bytes_eq name new then Some number else None
-
 -- a task's next job has no fault
 pub record IsFine (its : Task) (last : LastJob) (latest jobs arrival cost : ℕ) : Type 0 where
   pub some : 1 ≤ cost
   pub most : cost ≤ its.cost
-  pub early : arrival ≤ 4000000
+  pub early : arrival ≤ most_read_arrival
   pub order : latest ≤ arrival
   pub apart : least_arrival its last ≤ arrival
-  pub room : jobs < 20000
+  pub room : jobs < most_read_jobs
 
--- a set in range, of which each task has a name, and the numbers of the tasks by their names
-pub record IsNumbered (set : NamedTasks) (numbers : Numbers) : Type 0 where
+-- a set in range, of which each task has a name, and a table of these names
+pub record IsNumbered (set : NamedTasks) (names : List (List ℕ)) : Type 0 where
   pub in_range : IsTaskSet set.tasks
   pub labelled : length set.labels ≡ length set.tasks
-  pub named : (name : List ℕ) → number_in numbers name ≡ task_named set.labels name
+  pub named : names ≡ set.labels
 
 -- the set, and the plan that the lines so far say
 pub record PlanSoFar : Type 0 where

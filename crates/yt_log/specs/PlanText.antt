@@ -1,5 +1,5 @@
 -- The text of a plan.
-use Rattle.std.specs.Prelude.{◌≡◌, ℕ, ◌+◌, ◌==◌, ◌&&◌, not, nat_lt, nat_le, List, [], ◌∷◌, ◌++◌, length, reverse, bytes_eq, if◌then◌else◌, Option, None, Some, Result, Ok, Err}
+use Rattle.std.specs.Prelude.{ℕ, ◌+◌, ◌&&◌, not, nat_lt, nat_le, List, [], ◌∷◌, ◌++◌, length, reverse, bytes_eq, if◌then◌else◌, Option, None, Some, Result, Ok, Err}
 use Rattle.std.specs.List.{position_from}
 use Rattle.yt_base.specs.Digits.{is_digits, value_of}
 use Rattle.yt_base.specs.Files.{read_lines}
@@ -9,6 +9,7 @@ use Rattle.yt_log.specs.declared.plan.PlanItem.{PlanItem}
 use Rattle.yt_log.specs.declared.last_jobs.LastJob.{LastJob}
 use Rattle.yt_log.specs.declared.item_fault.ItemFault.{ItemFault}
 use Rattle.yt_log.specs.declared.item_fault.ItemFault.TheVariants.{Form, Unknown, Cost, Late, Order, Soon, Many}
+use Rattle.yt_log.specs.Limits.{most_read_arrival, most_read_jobs}
 use Rattle.yt_log.specs.Tasks.{task_of}
 use Rattle.yt_log.specs.Plan.{last_arrival}
 use Rattle.yt_log.specs.LastJobs.{last_job, least_arrival}
@@ -31,10 +32,10 @@ task_named labels name = position_from (bytes_eq name) 1 labels
 abbrev pub item_fault : Task → LastJob → ℕ → ℕ → ℕ → ℕ → Option ItemFault
 item_fault its last latest jobs arrival cost =
     if not (nat_le 1 cost && nat_le cost its.cost) then Some Cost
-    else (if nat_lt 4000000 arrival then Some Late
+    else (if nat_lt most_read_arrival arrival then Some Late
     else (if nat_lt arrival latest then Some Order
     else (if nat_lt arrival (least_arrival its last) then Some (Soon (least_arrival its last))
-    else (if nat_le 20000 jobs then Some Many else None))))
+    else (if nat_le most_read_jobs jobs then Some Many else None))))
 
 -- the plan, unless there is a fault
 abbrev pub unless : Option ItemFault → List PlanItem → Result (List PlanItem) ItemFault

@@ -57,6 +57,11 @@ IsExclusive tasks plan log =
 abbrev pub KeepsDeadlines : List Task → List PlanItem → Ticks → ℕ → Type 0
 KeepsDeadlines tasks plan log h = (item : PlanItem) → Has plan item → deadline_of tasks item ≤ h → done log item.job (deadline_of tasks item) ≡ item.cost
 
--- an item that is due by h is not done by its deadline
+-- an item is due by h, and its job has too few ticks below its deadline, of as many as are counted below a tick
+pub record IsMiss (tasks : List Task) (count : Job → ℕ → ℕ) (h : ℕ) (item : PlanItem) : Type 0 where
+  pub due : deadline_of tasks item ≤ h
+  pub short : count item.job (deadline_of tasks item) < item.cost
+
+-- an item of the plan that is due by h is not done by its deadline
 abbrev pub Misses : List Task → List PlanItem → Ticks → ℕ → Type 0
-Misses tasks plan log h = (item : PlanItem) × (Has plan item) × (deadline_of tasks item ≤ h) × (done log item.job (deadline_of tasks item) < item.cost)
+Misses tasks plan log h = (item : PlanItem) × Has plan item × IsMiss tasks (done log) h item

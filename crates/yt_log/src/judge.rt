@@ -7,7 +7,4 @@ mod miss;
 mod stretch;
 
 pub use broken::{Broken, Rule, first_broken};
-pub use miss::first_miss;
-
-/// How many tasks a set has at most.
-const MOST_TASKS: usize = 64;
+pub use miss::{Miss, first_miss};

@@ -1,23 +1,27 @@
 //! The last job of each task among the items of a plan so far.
 ghost use Rattle.std.specs.Prelude.{◌≡◌, ◌+◌, ◌-◌, ◌≤◌, [], ◌∷◌, List, length, slice_get, slice_set, IsTrue, Some};
 ghost use Rattle.yt_log.specs.declared.plan.PlanItem.{PlanItem};
+ghost use Rattle.yt_set.specs.Limits.{most_tasks, most_ticks};
+ghost use Rattle.yt_log.specs.Limits.{most_arrival};
 ghost use Rattle.yt_log.specs.Plan.{its_task, jobs_of};
 ghost use Rattle.yt_log.specs.LastJobs.{AreLast, least_arrival, may_come, may_follow};
 
 use crate::plan::{MOST_ARRIVAL, PlanItem};
-use yt_set::{Task, TaskSet};
+use yt_set::{MOST_TASKS, Task, TaskSet};
 
 /// A task's last job so far: its number and its arrival, both 0 where there is none.
 #[derive(Clone, Copy)]
-pub(crate) struct LastJob {
-    pub(crate) number: u32,
-    pub(crate) arrival: u64,
+pub struct LastJob {
+    /// Its number.
+    pub number: u32,
+    /// Its arrival.
+    pub arrival: u64,
 }
 
-/// The last job so far of each task, by its number from 1 to 64.
+/// The last job so far of each task, by its number from 1.
 #[derive(Drop)]
 pub(crate) struct LastJobs {
-    jobs: [LastJob; 64],
+    jobs: [LastJob; MOST_TASKS],
 }
 
 impl LastJobs {
@@ -29,13 +33,15 @@ impl LastJobs {
             number: 0,
             arrival: 0,
         };
-        LastJobs { jobs: [none; 64] }
+        LastJobs {
+            jobs: [none; MOST_TASKS],
+        }
     }
 
     /// The last job of a task.
     pub(crate) fn of(&self, task: u32) -> LastJob
         requires positive { 1 ≤ task }
-        requires within { task ≤ 64 }
+        requires within { task ≤ most_tasks }
         ensures { slice_get self.now.jobs (task - 1) ≡ Some result }
     {
         self.jobs[task as usize - 1]
@@ -45,7 +51,7 @@ impl LastJobs {
     pub(crate) fn may_come(&self, set: &TaskSet, item: PlanItem) -> bool
         ensures answer { (before : List PlanItem) → AreLast self.now.jobs before → result ≡ may_come set.now before item }
         ensures from_one { IsTrue result → 1 ≤ item.job.task }
-        ensures few { IsTrue result → item.job.task ≤ 64 }
+        ensures few { IsTrue result → item.job.task ≤ most_tasks }
         ensures positive { IsTrue result → 1 ≤ (its_task set.now item).period }
     {
         let task = item.job.task;
@@ -61,7 +67,7 @@ impl LastJobs {
     /// Takes an item's job as the last of its task.
     pub(crate) fn see(&mut self, item: PlanItem)
         requires positive { 1 ≤ item.job.task }
-        requires within { item.job.task ≤ 64 }
+        requires within { item.job.task ≤ most_tasks }
         ensures { (before : List PlanItem) → AreLast self.old.jobs before → item.job.number ≡ jobs_of item.job.task before + 1 → AreLast self.new.jobs (item ∷ before) }
     {
         self.jobs[item.job.task as usize - 1] = LastJob {
@@ -74,8 +80,8 @@ impl LastJobs {
 impl LastJob {
     /// The least tick at which the task's next job may arrive.
     pub(crate) fn least_arrival(&self, task: Task) -> u64
-        requires last { self.now.arrival ≤ 8000000 }
-        requires task { task.period ≤ 1000000 }
+        requires last { self.now.arrival ≤ most_arrival }
+        requires task { task.period ≤ most_ticks }
         ensures { result ≡ least_arrival task self.now }
     {
         if self.number == 0 {

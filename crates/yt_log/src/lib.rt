@@ -15,7 +15,6 @@ mod judge;
 mod last_jobs;
 mod laws;
 mod log;
-mod numbers;
 mod plan;
 mod put;
 mod read;
@@ -23,7 +22,8 @@ mod reader;
 mod task_names;
 
 pub use job::{Job, Segment};
-pub use judge::{Broken, Rule, first_broken, first_miss};
+pub use judge::{Broken, Miss, Rule, first_broken, first_miss};
+pub use last_jobs::LastJob;
 pub use laws::{
     blockers_miss, costs_wait, every_demand, fits_is_exact, fits_keeps, free_fits_keeps,
     grows_online, overloads_miss, rule_is_determined, rule_is_least, rule_is_safe, rule_makes_logs,
@@ -31,5 +31,5 @@ pub use laws::{
 };
 pub use log::Log;
 pub use plan::{Plan, PlanItem};
-pub use put::put_segment;
+pub use put::{put_end, put_segment};
 pub use read::{PlanFault, read_plan};

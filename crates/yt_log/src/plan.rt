@@ -1,5 +1,6 @@
 //! Plans: which jobs arrive when, and what they cost.
 ghost use Rattle.std.specs.Prelude.{◌≡◌, ◌↔◌, ◌<◌, ◌≤◌, [], ◌∷◌, ◌++◌, length, slice_get, IsTrue, Some, OnOk, OnErr};
+ghost use Rattle.yt_log.specs.Limits.{most_arrival};
 ghost use Rattle.yt_log.specs.Plan.{IsInOrder, IsLegalPlan, deadline_of, horizon, last_arrival};
 
 use crate::job::Job;
@@ -27,7 +28,7 @@ impl PlanItem {
     pub(crate) fn deadline(&self, set: &TaskSet) -> u64
         requires positive { 1 ≤ self.now.job.task }
         requires within { self.now.job.task ≤ length set.now }
-        requires early { self.now.arrival ≤ 8000000 }
+        requires early { self.now.arrival ≤ most_arrival }
         ensures { result ≡ deadline_of set.now self.now }
     {
         self.arrival + set.task(self.job.task).period

@@ -1,23 +1,30 @@
-//! Puts a segment's line.
-ghost use Rattle.std.specs.Prelude.{◌≡◌, ◌≤◌, [], length};
-ghost use Rattle.yt_log.specs.Printed.{segment_line};
+//! Puts the lines of a printed schedule.
+ghost use Rattle.std.specs.Prelude.{◌≡◌, ◌++◌, OnOk};
+ghost use Rattle.yt_log.specs.Printed.{end_line, segment_line};
 
 use crate::job::Segment;
-use yt_base::Line;
+use std::alloc::AllocError;
+use yt_base::Text;
 
-/// Puts a segment's line into an empty line, without a line feed: `run FROM TO NAME NUMBER`, with the name of the job's task and the
-/// job's number. The caller shows that the name has at most 65 bytes.
-pub fn put_segment(line: &mut Line, segment: Segment, label: &[u8])
-    requires empty { line.old ≡ [] }
-    requires label { length label.now ≤ 65 }
-    ensures { line.new ≡ segment_line segment label.now }
+/// Adds a segment's line, with its line feed: `run FROM TO NAME NUMBER`, with the name of the job's task and the job's number. `Err`
+/// comes where memory ran out.
+pub fn put_segment(text: &mut Text, label: &[u8], segment: &Segment) -> Result<(), AllocError>
+    ensures { OnOk result (text.new ≡ text.old ++ segment_line label.now segment.now) }
 {
-    line.put(b"run ");
-    line.put_u64(segment.from);
-    line.put(b" ");
-    line.put_u64(segment.to);
-    line.put(b" ");
-    line.put(label);
-    line.put(b" ");
-    line.put_u64(u64::from(segment.job.number));
+    text.put(b"run")?;
+    text.put_field(segment.from)?;
+    text.put_field(segment.to)?;
+    text.put(b" ")?;
+    text.put(label)?;
+    text.put_field(u64::from(segment.job.number))?;
+    text.put(b"\n")
+}
+
+/// Adds the line of the end, with its line feed: `end TIME`, by its time in ticks. `Err` comes where memory ran out.
+pub fn put_end(text: &mut Text, time: u64) -> Result<(), AllocError>
+    ensures { OnOk result (text.new ≡ text.old ++ end_line time) }
+{
+    text.put(b"end")?;
+    text.put_field(time)?;
+    text.put(b"\n")
 }

@@ -2,6 +2,8 @@
 ghost use Rattle.std.specs.Prelude.{◌≡◌, ◌+◌, ◌<◌, ◌≤◌, [], ◌∷◌, ◌++◌, length, reverse, IfErr, IfNone, IfOk, MatchResult, OnErr, OnOk, Ok, Err, IsTrue};
 ghost use Rattle.yt_base.specs.Lines.{fields_of};
 ghost use Rattle.yt_base.specs.Files.{after_line};
+ghost use Rattle.yt_set.specs.Limits.{most_ticks};
+ghost use Rattle.yt_log.specs.Limits.{most_arrival};
 ghost use Rattle.yt_log.specs.Plan.{IsLegalPlan, last_arrival};
 ghost use Rattle.yt_log.specs.LastJobs.{may_come};
 ghost use Rattle.yt_log.specs.PlanText.{item_fault, judged, judged_item};
@@ -147,8 +149,8 @@ fn item_fault(
     arrival: u64,
     cost: u64,
 ) -> Option<ItemFault>
-    requires last { last.arrival ≤ 8000000 }
-    requires its { its.period ≤ 1000000 }
+    requires last { last.arrival ≤ most_arrival }
+    requires its { its.period ≤ most_ticks }
     ensures answer { result ≡ item_fault its last latest jobs arrival cost }
     ensures fine { IfNone result (IsFine its last latest jobs arrival cost) }
 {

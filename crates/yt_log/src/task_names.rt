@@ -3,16 +3,17 @@ ghost use Rattle.std.specs.Prelude.{◌≡◌, ◌≤◌, length, IfOk, IfSome};
 ghost use Rattle.yt_set.specs.Tasks.{IsTaskSet};
 ghost use Rattle.yt_log.specs.PlanText.{task_named};
 
-use crate::numbers::Numbers;
 use std::alloc::{AllocError, Global};
 use std::marker::Model;
+use yt_list::Name;
 use yt_set::{NamedSet, TaskSet};
+use yt_table::NameTable;
 
 /// The tasks of a set, which are found by their names. A contract sees the set.
 #[derive(Drop)]
 pub(crate) struct TaskNames<'a> {
     set: &'a NamedSet,
-    numbers: Numbers<'a>,
+    table: NameTable<'a, Name>,
 }
 
 impl<'a> Model for TaskNames<'a> {
@@ -23,7 +24,7 @@ impl<'a> Model for TaskNames<'a> {
 
     ghost view = { λ n. n.set.now };
 
-    ghost invariant = { λ n. IsNumbered n.set.now n.numbers };
+    ghost invariant = { λ n. IsNumbered n.set.now n.table };
 }
 
 impl<'a> TaskNames<'a> {
@@ -31,11 +32,8 @@ impl<'a> TaskNames<'a> {
     pub(crate) fn new(alloc: Global, set: &'a NamedSet) -> Result<Self, AllocError>
         ensures { IfOk result (λ names. names ≡ set.now) }
     {
-        let mut numbers = Numbers::new(alloc);
-        for place in 0..set.set().len() {
-            numbers.give(set.label(place + 1), place + 1)?;
-        }
-        Ok(TaskNames { set, numbers })
+        let table = NameTable::new(alloc, set.labels())?;
+        Ok(TaskNames { set, table })
     }
 
     /// The set. Whatever it is, it is in range.
@@ -52,6 +50,7 @@ impl<'a> TaskNames<'a> {
         ensures in_set { IfSome result (λ task. (1 ≤ task) × (task ≤ length self.now.tasks)) }
         ensures in_range { IsTaskSet self.now.tasks }
     {
-        self.numbers.find(name)
+        let index = self.table.find(name)?;
+        Some(index as u32 + 1)
     }
 }

@@ -1,5 +1,5 @@
-pub mod Exprs
-pub mod Forget
-pub mod Ports
-pub mod Turns
-pub mod WellFormed
+mod Exprs
+mod Forget
+mod Ports
+mod Turns
+mod WellFormed

@@ -4,6 +4,7 @@ ghost use Rattle.std.specs.Prelude.{◌≡◌, ◌≤◌, length, IfOk};
 ghost use Rattle.yt_graph.specs.Picture.{graph_tree, port_tree};
 ghost use Rattle.yt_graph.specs.Meaning.{handling};
 ghost use Rattle.yt_graph.specs.Cost.{greatest_cost};
+ghost use Rattle.yt_graph.specs.Limits.{most_cost};
 ghost use Rattle.yt_graph.specs.WellFormed.{IsWellFormed};
 ghost use Rattle.yt_mean.specs.Handled.{ForPort, IsHandlerWithin, Tells};
 
@@ -37,7 +38,7 @@ pub fn handle(
     requires last { port ≤ length graph.now.ports }
     requires width { ForPort (graph_tree graph.now) port (λ p. length msg.now ≡ p.params) }
     requires vars { length vars.now ≡ length graph.now.vars }
-    requires cost { ForPort (graph_tree graph.now) port (λ p. greatest_cost p ≤ 1000000) }
+    requires cost { ForPort (graph_tree graph.now) port (λ p. greatest_cost p ≤ most_cost) }
     ensures { IfOk result (λ answer.
         ForPort (graph_tree graph.now) port (λ p. Tells answer (handling p msg.now vars.now))) }
 {
@@ -53,7 +54,7 @@ pub(crate) fn run(
 ) -> Result<Handled, AllocError>
     requires within { IsHandlerWithin (length vars.now) (port_tree port.now) }
     requires width { length msg.now ≡ port.now.params }
-    requires cost { greatest_cost (port_tree port.now) ≤ 1000000 }
+    requires cost { greatest_cost (port_tree port.now) ≤ most_cost }
     ensures { IfOk result (λ answer. Tells answer (handling (port_tree port.now) msg.now vars.now)) }
 {
     let mut walk = Walk::begin(alloc, port.locals, msg, vars)?;

@@ -7,14 +7,14 @@ use Rattle.yt_graph.specs.declared.ast.Path.{Path}
 use Rattle.yt_graph.specs.declared.ast.Source as source
 use Rattle.yt_graph.specs.AstPicture.{ItemTree, input, output, process, number, name, send_on, no_values, more_values, more_stmts, no_stmts, two_sides}
 use Rattle.yt_graph.specs.declared.expr.Op2.TheVariants.{Add}
-use Rattle.yt_names.specs.declared.fault.NameFault.TheVariants.{Unknown, Limit, Cycle}
-use Rattle.yt_names.specs.declared.fault.LimitKind.TheVariants.{Period}
-use Rattle.yt_names.specs.First.{first_fault, decides, lesser, least_with}
-use Rattle.yt_names.specs.Paths.{placed_named, look_up, source_width, port_before}
+use Rattle.yt_name_faults.specs.declared.fault.NameFault.TheVariants.{Unknown, Limit, Cycle}
+use Rattle.yt_name_faults.specs.declared.fault.LimitKind.TheVariants.{Period}
+use Rattle.yt_name_faults.specs.First.{first_fault, decides, lesser, least_with}
+use Rattle.yt_name_faults.specs.Paths.{placed_named, look_up, source_width, port_before}
 use Rattle.yt_graph.specs.declared.port.Feed as feed
 use Rattle.yt_graph.specs.Picture as graph
 use Rattle.yt_graph.specs.Picture.{more, send, more_exprs, two, local, no_exprs, empty}
-use Rattle.yt_names.specs.Faults.{name_faults}
+use Rattle.yt_name_faults.specs.Faults.{name_faults}
 use Rattle.yt_names.specs.Resolved.{resolved}
 
 word : List ℕ → ℕ → Word

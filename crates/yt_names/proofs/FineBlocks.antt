@@ -15,13 +15,14 @@ use Rattle.yt_graph.specs.AstPicture.{AstExprTree, AstStmtTree, let_local, assig
 use Rattle.yt_graph.specs.AstWellFormed.{IsWritableStmt, IsWritableBlock, IsWritableValue}
 use Rattle.yt_graph.specs.Picture.{ExprTree, PortTree, GraphTree}
 use Rattle.yt_graph.specs.WellFormed.{IsWithin, IsVarOf, IsFineValue, IsFineStmt, IsFineBlock, IsOutOfWidth}
-use Rattle.yt_names.specs.declared.fault.NameFault.TheVariants.{Unknown, Twice, Width, Limit}
-use Rattle.yt_names.specs.declared.fault.LimitKind.TheVariants.{Locals, Turns}
+use Rattle.yt_name_faults.specs.declared.fault.NameFault.TheVariants.{Unknown, Twice, Width, Limit}
+use Rattle.yt_name_faults.specs.declared.fault.LimitKind.TheVariants.{Locals, Turns}
 use Rattle.yt_names.specs.declared.meant.Meant.{Meant}
 use Rattle.yt_names.specs.declared.meant.Meant.TheVariants.{Local, Var, Nothing}
-use Rattle.yt_names.specs.First.{fault_if}
-use Rattle.yt_names.specs.Names.{first_of, is_among, with_name, out_names}
-use Rattle.yt_names.specs.Handlers.{Env, is_known, out_named, send_faults, values_count, expr_faults, exprs_faults, local_faults, stmt_faults, block_faults, params_faults, visible_params, left_after, left_after_block, visible_after, is_outside}
+use Rattle.yt_name_faults.specs.First.{fault_if}
+use Rattle.yt_table.specs.Tables.{first_of, is_among, with_name}
+use Rattle.yt_name_faults.specs.Names.{out_names}
+use Rattle.yt_name_faults.specs.Handlers.{Env, is_known, out_named, send_faults, values_count, expr_faults, exprs_faults, local_faults, stmt_faults, block_faults, params_faults, visible_params, left_after, left_after_block, visible_after, is_outside}
 use Rattle.yt_names.specs.Resolved.{Scope, NamedPlace, local_at, with_local, param_locals, locals_after, meant, set_of, out_head, out_number, place_of, number_of, size_of, count_of, resolved_expr, resolved_stmt, resolved_block}
 use Rattle.yt_names.specs.Laws.{IsFineHead}
 use Rattle.yt_names.proofs.WellFormedLemmas.{no_part, no_cause, in_range}

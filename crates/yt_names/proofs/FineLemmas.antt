@@ -12,12 +12,13 @@ use Rattle.yt_graph.specs.AstPicture.{AstExprTree, number, name, minus, negation
 use Rattle.yt_graph.specs.AstWellFormed.{ast_expr_depth, ast_exprs_depth}
 use Rattle.yt_graph.specs.Picture.{ExprsTree, PortTree, GraphTree}
 use Rattle.yt_graph.specs.WellFormed.{IsWithin, IsVarOf, IsFineExpr, AreFineExprs, expr_depth, exprs_depth, exprs_count}
-use Rattle.yt_names.specs.declared.fault.NameFault.TheVariants.{Unknown, Width}
+use Rattle.yt_name_faults.specs.declared.fault.NameFault.TheVariants.{Unknown, Width}
 use Rattle.yt_names.specs.declared.meant.Meant.{Meant}
 use Rattle.yt_names.specs.declared.meant.Meant.TheVariants.{Local, Var, Nothing}
-use Rattle.yt_names.specs.First.{fault_if}
-use Rattle.yt_names.specs.Names.{first_of, is_among, var_names, op_names}
-use Rattle.yt_names.specs.Handlers.{Env, is_known, op_named, call_faults, values_count, expr_faults, exprs_faults}
+use Rattle.yt_name_faults.specs.First.{fault_if}
+use Rattle.yt_table.specs.Tables.{first_of, is_among}
+use Rattle.yt_name_faults.specs.Names.{var_names, op_names}
+use Rattle.yt_name_faults.specs.Handlers.{Env, is_known, op_named, call_faults, values_count, expr_faults, exprs_faults}
 use Rattle.yt_names.specs.Resolved.{Scope, NamedPlace, local_at, meant, meant_by, var_meant, read_of, place_of, number_of, call_head, call_at, resolved_expr, resolved_exprs}
 use Rattle.yt_names.specs.Laws.{IsFineHead}
 use Rattle.yt_names.proofs.WellFormedLemmas.{no_part, no_cause}

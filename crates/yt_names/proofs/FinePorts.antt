@@ -14,16 +14,18 @@ use Rattle.yt_graph.specs.AstPicture.{PortDeclTree, ItemTree, input, output, res
 use Rattle.yt_graph.specs.AstWellFormed.{IsWritablePort, IsWritableItem, IsWritableOut, ast_stmt_depth, ast_block_depth}
 use Rattle.yt_graph.specs.Picture.{PortTree, GraphTree, ExprTree}
 use Rattle.yt_graph.specs.WellFormed.{IsVarOf, IsFineOut, IsFineBlock, IsWithin, stmt_depth, block_depth}
-use Rattle.yt_names.specs.declared.fault.LimitKind as limit
-use Rattle.yt_names.specs.First.{fault_if}
-use Rattle.yt_names.specs.declared.fault.NameFault.TheVariants.{Cycle, Twice, Limit}
+use Rattle.yt_name_faults.specs.declared.fault.LimitKind as limit
+use Rattle.yt_name_faults.specs.First.{fault_if}
+use Rattle.yt_name_faults.specs.declared.fault.NameFault.TheVariants.{Cycle, Twice, Limit}
 use Rattle.yt_names.specs.declared.meant.Meant.{Meant}
 use Rattle.yt_names.specs.declared.meant.Meant.TheVariants.{Local, Var as Variable, Nothing}
-use Rattle.yt_names.specs.Names.{first_of, with_name, item_names, port_names, out_names}
-use Rattle.yt_names.specs.Paths.{placed_from, ports_of, ports_before, comes_back, source_width}
-use Rattle.yt_names.specs.declared.room.Room.{Room}
-use Rattle.yt_names.specs.Handlers.{Env, handler_faults, params_faults, block_faults, visible_params, local_faults, is_known, left_after, left_after_block}
-use Rattle.yt_names.specs.Faults.{declared_faults, width_faults, inside_faults, vars_faults, every_faults, range_faults, out_faults, outs_faults, outs_room, port_faults, ports_faults, item_faults, items_faults, room_after, full_room, name_faults}
+use Rattle.yt_table.specs.Tables.{first_of, with_name}
+use Rattle.yt_name_faults.specs.Names.{item_names, port_names, out_names}
+use Rattle.yt_name_faults.specs.Paths.{placed_from, ports_of, ports_before, comes_back, source_width}
+use Rattle.yt_name_faults.specs.declared.room.Room.{Room}
+use Rattle.yt_name_faults.specs.Handlers.{Env, handler_faults, params_faults, block_faults, visible_params, local_faults, is_known, left_after, left_after_block}
+use Rattle.yt_graph.specs.Limits.{most_outs}
+use Rattle.yt_name_faults.specs.Faults.{declared_faults, width_faults, inside_faults, vars_faults, every_faults, range_faults, out_faults, outs_faults, port_faults, ports_faults, item_faults, items_faults, room_after, full_room, name_faults}
 use Rattle.yt_names.specs.Laws.{AreFineHeads}
 use Rattle.yt_names.specs.Resolved.{NamedPlace, Scope, locals_after, meant, set_of, count_of, every_of, out_head, resolved_expr, resolved_stmt, resolved_block, param_locals, place_of, size_of, var_of, vars_of, resource_name, resolved_port, resolved_ports_of, resolved_ports, resolved}
 use Rattle.yt_names.proofs.WellFormedLemmas.{no_part, no_cause, in_range, has_room, counted}
@@ -124,7 +126,7 @@ module _ (g : GraphTree) (all : List ItemTree) (ops : List OpHead) (few : length
       let named = no_part (declared_faults p.name number (first_of p.name.text first (port_names ports)) left limit.TheVariants.Ports) _ none in
       let wide = no_part (width_faults p.name (length p.params) (source_width all p.source)) _ named.1 in
       let later = (no_part (fault_if (comes_back (ports_before all) number) (Cycle p.name.place)) _ wide.1).1 in
-      let outs = no_part (outs_faults p.outs 0 outs_room p.outs) (handler_faults env p.params p.body) later in
+      let outs = no_part (outs_faults p.outs 0 most_outs p.outs) (handler_faults env p.params p.body) later in
       let handler = no_part (params_faults env [] 16 p.params) (block_faults env (visible_params [] p.params) (16 - length p.params) p.body) outs.1 in
       let final = left_after_block (16 - length p.params) p.body in
       let there : (k : ℕ) → k < length vars → IsVarOf g owner (place_of (length before + k)) = λ k lt.

@@ -3,7 +3,7 @@ use Rattle.std.proofs.Common.{◌≡◌, ℕ, ◌-◌, ◌≤◌, List, [], ◌�
 use Rattle.std.proofs.lemmas.List.{length-append, take-append-le}
 use Rattle.yt_graph.specs.AstPicture.{AstStmtTree, let_local, assign, send_on, when_only, when_else, turns, AstBlockTree, no_stmts, more_stmts}
 use Rattle.yt_graph.specs.Picture.{more}
-use Rattle.yt_names.specs.Handlers.{left_after, left_after_block}
+use Rattle.yt_name_faults.specs.Handlers.{left_after, left_after_block}
 use Rattle.yt_names.specs.Resolved.{NamedPlace, Scope, locals_after, resolved_stmt, resolved_block}
 
 pub locals_longer : (v : List NamedPlace) (l : ℕ) (s : AstStmtTree) → length v ≤ length (locals_after v l s)

@@ -10,13 +10,13 @@ use Rattle.yt_graph.specs.declared.ast.VarDecl.{VarDecl}
 use Rattle.yt_graph.specs.declared.operator.OpHead.{OpHead}
 use Rattle.yt_graph.specs.AstPicture.{PortDeclTree, ItemTree, input, output, resource, process}
 use Rattle.yt_graph.specs.WellFormed.{IsWithin, IsCounted}
-use Rattle.yt_names.specs.declared.fault.NameFault.{NameFault}
-use Rattle.yt_names.specs.declared.fault.LimitKind.{LimitKind}
-use Rattle.yt_names.specs.declared.room.Room.{Room}
-use Rattle.yt_names.specs.First.{fault_if}
-use Rattle.yt_names.specs.Paths.{placed_from, ports_of}
-use Rattle.yt_names.specs.Handlers.{is_outside}
-use Rattle.yt_names.specs.Faults.{declared_faults, range_faults, vars_faults, ports_faults, item_faults, items_faults, room_after, full_room, name_faults}
+use Rattle.yt_name_faults.specs.declared.fault.NameFault.{NameFault}
+use Rattle.yt_name_faults.specs.declared.fault.LimitKind.{LimitKind}
+use Rattle.yt_name_faults.specs.declared.room.Room.{Room}
+use Rattle.yt_name_faults.specs.First.{fault_if}
+use Rattle.yt_name_faults.specs.Paths.{placed_from, ports_of}
+use Rattle.yt_name_faults.specs.Handlers.{is_outside}
+use Rattle.yt_name_faults.specs.Faults.{declared_faults, range_faults, vars_faults, ports_faults, item_faults, items_faults, room_after, full_room, name_faults}
 use Rattle.yt_names.specs.Resolved.{size_of, inputs_of, outputs_of, resources_of, own_resources_of, own_resource, var_of, vars_of, resource_name, resolved_port, resolved_ports_of, resolved_ports, resolved}
 
 -- faults that are none have no part

@@ -1,10 +1,2 @@
-pub mod Answer
-pub mod Faults
-pub mod First
-pub mod Handlers
 pub mod Laws
-pub mod Names
-pub mod Parts
-pub mod Paths
 pub mod Resolved
-pub mod Tables

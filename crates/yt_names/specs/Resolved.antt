@@ -16,13 +16,15 @@ use Rattle.yt_graph.specs.declared.graph as graph
 use Rattle.yt_graph.specs.AstPicture.{AstExprTree, number, name, minus, negation, two_sides, paren, call_of, AstExprsTree, no_values, more_values, AstStmtTree, let_local, assign, send_on, when_only, when_else, turns, AstBlockTree, no_stmts, more_stmts, PortDeclTree, ItemTree, input, output, resource, process}
 use Rattle.yt_graph.specs.Picture.{ExprTree, num, local, var, neg, lnot, two, call, ExprsTree, no_exprs, more_exprs, StmtTree, set_local, set_var, send, if_only, if_else, repeat, BlockTree, empty, more, PortTree, GraphTree}
 use Rattle.yt_graph.specs.WellFormed.{block_uses_var}
-use Rattle.yt_names.specs.declared.fault.NameFault.{NameFault}
+use Rattle.yt_name_faults.specs.declared.fault.NameFault.{NameFault}
 use Rattle.yt_names.specs.declared.meant.Meant.{Meant}
 use Rattle.yt_names.specs.declared.meant.Meant.TheVariants.{Local, Var, Nothing}
-use Rattle.yt_names.specs.declared.target.Target.{Target}
-use Rattle.yt_names.specs.Names.{first_of, var_names, out_names, op_names}
-use Rattle.yt_names.specs.Paths.{look_up}
-use Rattle.yt_names.specs.Handlers.{locals_room, left_after, left_after_block}
+use Rattle.yt_name_faults.specs.declared.target.Target.{Target}
+use Rattle.yt_table.specs.Tables.{first_of}
+use Rattle.yt_name_faults.specs.Names.{var_names, out_names, op_names}
+use Rattle.yt_name_faults.specs.Paths.{look_up}
+use Rattle.yt_graph.specs.Limits.{most_locals}
+use Rattle.yt_name_faults.specs.Handlers.{left_after, left_after_block}
 
 -- a number of the text as a count
 abbrev pub size_of : ℤ → ℕ
@@ -100,7 +102,7 @@ abbrev mutual
 
 -- the place of a new local of a handler that may have so many more
 abbrev pub new_place : ℕ → ℕ
-new_place left = locals_room - left
+new_place left = most_locals - left
 
 abbrev pub with_local : List NamedPlace → ℕ → List ℕ → List NamedPlace
 with_local visible left word = visible ++ record { text = word; place = new_place left } ∷ []
@@ -145,11 +147,11 @@ param_locals visible left [] = visible
 param_locals visible left (p ∷ rest) = param_locals (with_local visible left p.text) (left - 1) rest
 
 abbrev pub resolved_body : Scope → List Word → AstBlockTree → BlockTree
-resolved_body scope params body = resolved_block scope (param_locals [] locals_room params) (locals_room - length params) body
+resolved_body scope params body = resolved_block scope (param_locals [] most_locals params) (most_locals - length params) body
 
 -- how many locals a handler has, parameters among them
 abbrev pub locals_of : List Word → AstBlockTree → ℕ
-locals_of params body = locals_room - left_after_block (locals_room - length params) body
+locals_of params body = most_locals - left_after_block (most_locals - length params) body
 
 abbrev pub every_of : Option Num → ℕ
 every_of None = 1

@@ -2,19 +2,16 @@
 ghost use Rattle.std.specs.Prelude.{◌≡◌, ◌++◌, map, OnOk, IfOk};
 ghost use Rattle.std.specs.List.{flat_map};
 ghost use Rattle.yt_graph.specs.AstPicture.{item_tree};
-ghost use Rattle.yt_names.specs.Parts.{trees};
+ghost use Rattle.yt_name_faults.specs.Parts.{trees};
 ghost use Rattle.yt_names.specs.Resolved.{inputs_of, resolved_inputs, output_to, outputs_of, resolved_outputs, resources_of, own_resources_of, resolved_groups, var_of, out_head, every_of};
 
-use crate::fault::NameFault;
-use crate::index::Index;
 use crate::numbers::{count_of, number_of, size_of};
-use crate::paths::look_up;
-use crate::target::Target;
 use std::alloc::{AllocError, Global};
 use yt_graph::{
     Input, Inputs, Item, Num, OutDecl, OutHead, OutHeads, Output, Outputs, Var, VarDecl, Vars, Word,
 };
 use yt_list::{Name, Names};
+use yt_name_faults::{Index, NameFault, Target, look_up};
 
 /// A name of its own.
 pub(crate) fn name(alloc: Global, word: &Word) -> Result<Name, AllocError>

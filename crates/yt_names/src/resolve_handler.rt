@@ -2,17 +2,17 @@
 ghost use Rattle.std.specs.Prelude.{◌≡◌, ◌-◌, ◌≤◌, length, take, OnOk, IfOk};
 ghost use Rattle.yt_graph.specs.AstPicture.{ast_stmt_tree, ast_block_tree};
 ghost use Rattle.yt_graph.specs.Picture.{expr_tree, stmt_tree, block_tree};
-ghost use Rattle.yt_names.specs.Handlers.{left_after, left_after_block};
+ghost use Rattle.yt_name_faults.specs.Handlers.{left_after, left_after_block};
 ghost use Rattle.yt_names.specs.Resolved.{with_local, locals_after, param_locals, set_of, resolved_stmt, resolved_block, resolved_body, locals_of};
 
-use crate::locals::LOCALS;
 use crate::meant::Meant;
 use crate::numbers::count_of;
 use crate::resolve_expr::{resolve_expr, resolve_exprs};
 use crate::scope::{Scope, Visible};
 use std::alloc::{AllocError, Global};
 use yt_graph::{
-    AstParts, AstStmt, Block, Expr, Stmt, Word, open_ast_stmt, stmt_if, stmt_if_else, stmt_repeat,
+    AstParts, AstStmt, Block, Expr, MOST_LOCALS, Stmt, Word, open_ast_stmt, stmt_if, stmt_if_else,
+    stmt_repeat,
 };
 
 /// A handler that is resolved.
@@ -46,7 +46,7 @@ pub(crate) fn resolve_handler<'a>(
 {
     let mut build = Build {
         visible: Visible::new(alloc),
-        left: LOCALS,
+        left: MOST_LOCALS,
     };
     build.params(params)?;
     let block = build.block(alloc, scope, body)?;
@@ -61,7 +61,7 @@ impl<'a> Build<'a> {
     fn place(&self) -> u32
         ensures { result ≡ 16 - self.now.left }
     {
-        LOCALS.saturating_sub(self.left) as u32
+        MOST_LOCALS.saturating_sub(self.left) as u32
     }
 
     /// One more local.

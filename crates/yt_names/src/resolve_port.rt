@@ -2,25 +2,22 @@
 ghost use Rattle.std.specs.Prelude.{◌≡◌, ◌++◌, length, map, OnOk, IfOk};
 ghost use Rattle.yt_graph.specs.AstPicture.{item_tree, port_decl_tree};
 ghost use Rattle.yt_graph.specs.Picture.{block_tree, port_tree};
-ghost use Rattle.yt_names.specs.Parts.{trees};
+ghost use Rattle.yt_name_faults.specs.Parts.{trees};
 ghost use Rattle.yt_names.specs.Resolved.{number_among, resolved_inputs, resolved_groups, resolved_feed, feed_to, group_of, resolved_port, resolved_ports_of, resource_name, vars_of};
 ghost use Rattle.std.specs.Option.{option_copied};
 
-use crate::declared::Declared;
-use crate::fault::NameFault;
 use crate::heads::{add_vars, name, resolve_outs};
-use crate::index::Index;
 use crate::numbers::{number_of, place_of};
-use crate::paths::look_up;
 use crate::resolve_handler::resolve_handler;
 use crate::scope::Scope;
-use crate::target::Target;
 use crate::uses_var::block_uses_var;
 use std::alloc::{AllocError, Global};
 use yt_graph::{
     Feed, Input, Inputs, Item, OpHead, Port, PortDecl, Ports, Source, Stmt, VarDecl, Vars, Word,
 };
 use yt_list::{Name, Names};
+use yt_name_faults::{Index, NameFault, Target, look_up};
+use yt_table::NameTable;
 
 /// What ports are resolved by: the names of the graph, the operators, and the inputs and resources.
 #[derive(Drop)]
@@ -42,7 +39,7 @@ pub(crate) struct Heads<'i, 'a> {
 pub(crate) struct Owner<'e, 'a> {
     name: &'a Word,
     key: &'a Word,
-    vars: &'e Declared<'a, VarDecl>,
+    vars: &'e NameTable<'a, VarDecl>,
     first: usize,
 }
 
@@ -64,7 +61,7 @@ pub(crate) fn add_part<'a>(
             vars: decls,
             ports: port_decls,
         } => {
-            let declared = Declared::new(alloc, decls.as_slice())?;
+            let declared = NameTable::new(alloc, decls.as_slice())?;
             let owner = Owner {
                 name,
                 key: resource_word(name, inside.as_ref()),
@@ -114,7 +111,7 @@ fn resolve_port<'a>(
 ) -> Result<Port, AllocError>
     ensures { IfOk result (λ p. port_tree p ≡ resolved_port (trees heads.now.index.now) owner.now.name.now.text owner.now.key.now.text heads.now.ops.now owner.now.vars.now owner.now.first (port_decl_tree decl.now)) }
 {
-    let outs = Declared::new(alloc, decl.outs.as_slice())?;
+    let outs = NameTable::new(alloc, decl.outs.as_slice())?;
     let scope = Scope::new(owner.first, owner.vars, &outs, heads.ops);
     let handler = resolve_handler(alloc, &scope, decl.params.as_slice(), &decl.body)?;
     Ok(Port {

@@ -4,19 +4,17 @@ ghost use Rattle.yt_graph.specs.AstPicture.{ast_tree};
 ghost use Rattle.yt_graph.specs.AstWellFormed.{IsWritable};
 ghost use Rattle.yt_graph.specs.Picture.{graph_tree, port_tree};
 ghost use Rattle.yt_graph.specs.WellFormed.{IsWellFormed};
-ghost use Rattle.yt_names.specs.Answer.{IsFirstFault};
-ghost use Rattle.yt_names.specs.Faults.{name_faults};
+ghost use Rattle.yt_name_faults.specs.Answer.{IsFirstFault};
+ghost use Rattle.yt_name_faults.specs.Faults.{name_faults};
 ghost use Rattle.yt_names.specs.Laws.{AreFineHeads};
-ghost use Rattle.yt_names.specs.Parts.{trees};
+ghost use Rattle.yt_name_faults.specs.Parts.{trees};
 ghost use Rattle.yt_names.specs.Resolved.{resolved, resolved_vars, resolved_ports};
 
-use crate::fault::NameFault;
 use crate::heads::{resolve_groups, resolve_inputs, resolve_outputs};
-use crate::index::Index;
-use crate::item_faults::first_fault;
 use crate::resolve_port::{Heads, add_part};
 use std::alloc::{AllocError, Global};
 use yt_graph::{Ast, Graph, Item, OpHead, Ports, Vars};
+use yt_name_faults::{Index, NameFault, first_fault};
 
 /// The graph that a tree's names stand for, or the fault of names that decides.
 ///

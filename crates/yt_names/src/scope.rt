@@ -1,15 +1,16 @@
 //! What a handler's words stand for.
 ghost use Rattle.std.specs.Prelude.{◌≡◌, ◌++◌, [], ◌∷◌, length, take, OnOk};
 ghost use Rattle.yt_names.specs.Resolved.{local_at, meant, out_number};
-ghost use Rattle.yt_names.specs.Names.{first_of, out_names, op_names};
+ghost use Rattle.yt_table.specs.Tables.{first_of};
+ghost use Rattle.yt_name_faults.specs.Names.{out_names, op_names};
 
-use crate::declared::Declared;
-use crate::env::place_of_op;
 use crate::meant::Meant;
 use crate::numbers::{number_of, place_behind};
 use std::alloc::{AllocError, Global};
 use std::marker::Model;
 use yt_graph::{OpHead, OutDecl, VarDecl};
+use yt_name_faults::place_of_op;
+use yt_table::NameTable;
 
 /// A local: its name, and its place in the handler.
 #[derive(Clone, Copy)]
@@ -81,8 +82,8 @@ impl<'a> Visible<'a> {
 #[derive(Drop)]
 pub(crate) struct Scope<'e, 'a> {
     first: usize,
-    vars: &'e Declared<'a, VarDecl>,
-    outs: &'e Declared<'a, OutDecl>,
+    vars: &'e NameTable<'a, VarDecl>,
+    outs: &'e NameTable<'a, OutDecl>,
     ops: &'a [OpHead],
 }
 
@@ -103,8 +104,8 @@ impl<'e, 'a> Scope<'e, 'a> {
     /// What these are.
     pub(crate) fn new(
         first: usize,
-        vars: &'e Declared<'a, VarDecl>,
-        outs: &'e Declared<'a, OutDecl>,
+        vars: &'e NameTable<'a, VarDecl>,
+        outs: &'e NameTable<'a, OutDecl>,
         ops: &'a [OpHead],
     ) -> Self
         ensures first { result.first ≡ first }

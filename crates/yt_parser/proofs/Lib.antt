@@ -1,3 +1,2 @@
-pub mod parsing
-pub mod reading
-pub mod printing
+pub mod Lemmas
+mod parsing

@@ -1,11 +1,3 @@
-pub mod Lexemes
-pub mod Forms
-pub mod Grammar
-pub mod Reading
+pub mod Parses
 pub mod Signs
 pub mod Results
-pub mod Parts
-pub mod Parses
-pub mod CanonicalText
-pub mod SamePlaces
-pub mod Writable

@@ -3,12 +3,11 @@ use Rattle.std.specs.Prelude.{◌≡◌, ℕ, List, [], ◌∷◌, ◌++◌, len
 use Rattle.yt_graph.specs.declared.place.Place.{Place}
 use Rattle.yt_graph.specs.declared.ast.Ast.{Ast}
 use Rattle.yt_graph.specs.AstPicture.{ItemTree, ast_tree}
-use Rattle.yt_graph.specs.AstWellFormed.{IsWritable}
 use Rattle.yt_lexer.specs.Places.{place_of}
 use Rattle.yt_parser.specs.declared.parser.ParseFault.{ParseFault}
 use Rattle.yt_parser.specs.declared.parser.ParseFault.TheVariants.{Syntax, Memory}
-use Rattle.yt_parser.specs.Lexemes.{Tok}
-use Rattle.yt_parser.specs.Grammar.{Spells, IsStuckAt}
+use Rattle.yt_grammar.specs.Lexemes.{Tok}
+use Rattle.yt_grammar.specs.Grammar.{IsStuckAt}
 
 -- the place of the first of these tokens, or of the end of the text where there is none
 abbrev pub place_before : List ℕ → List Tok → Place
@@ -33,7 +32,3 @@ abbrev pub GivesTree : Result Ast ParseFault → List ItemTree → Type 0
 GivesTree (Ok ast) items = ast_tree ast ≡ items
 GivesTree (Err Memory) items = Unit {0}
 GivesTree (Err (Syntax place)) items = ⊥
-
--- each tree that tokens spell can be written: its names are words, its numbers have no sign, and no depth is past its limit
-abbrev pub SpelledIsWritable : Type 0
-SpelledIsWritable = (toks : List Tok) (items : List ItemTree) → Spells toks items → IsWritable items

@@ -2,8 +2,8 @@
 use Rattle.std.specs.Prelude.{◌≡◌, List, Result, Ok, Err}
 use Rattle.yt_parser.specs.declared.cursor.Stop.{Stop}
 use Rattle.yt_parser.specs.declared.cursor.Stop.TheVariants.{Syntax, Memory}
-use Rattle.yt_parser.specs.Lexemes.{Tok}
-use Rattle.yt_parser.specs.Reading.{Reading, got, stuck}
+use Rattle.yt_grammar.specs.Lexemes.{Tok}
+use Rattle.yt_grammar.specs.Reading.{Reading, got, stuck}
 
 -- reading is stuck in front of what is left, or memory ran out
 abbrev pub IsStop : {X : Type 0} → Reading X → Stop → List Tok → Type 0

@@ -3,13 +3,13 @@ use Rattle.std.specs.Prelude.{ℕ, ◌≤◌, nat_eq, Bool, false, List, [], ◌
 use Rattle.yt_graph.specs.declared.place.Place.{Place}
 use Rattle.yt_graph.specs.declared.expr.Op2.{Op2}
 use Rattle.yt_lexer.specs.declared.token.Token.{Token}
-use Rattle.yt_parser.specs.declared.sign.Keyword.{Keyword}
-use Rattle.yt_parser.specs.declared.sign.Mark as declared_mark
+use Rattle.yt_grammar.specs.declared.sign.Keyword.{Keyword}
+use Rattle.yt_grammar.specs.declared.sign.Mark as declared_mark
 use Rattle.yt_parser.specs.declared.cursor.Sign.{Sign}
 use Rattle.yt_parser.specs.declared.cursor.Sign.TheVariants.{End, Word, Key, Mark, Number}
-use Rattle.yt_parser.specs.Lexemes.{Lexeme, word, key, mark, digits, Tok, keyword_number, mark_number}
-use Rattle.yt_parser.specs.Grammar.{op_rank}
-use Rattle.yt_parser.specs.Reading.{op_in}
+use Rattle.yt_grammar.specs.Lexemes.{Lexeme, word, key, mark, digits, Tok, keyword_number, mark_number}
+use Rattle.yt_grammar.specs.Grammar.{op_rank}
+use Rattle.yt_grammar.specs.Reading.{op_in}
 
 -- the sign of what a token says
 abbrev pub lexeme_sign : Lexeme → Sign

@@ -6,15 +6,14 @@ ghost use Rattle.yt_graph.specs.declared.ast.Num.{Num};
 ghost use Rattle.yt_lexer.specs.declared.token.Token.{Token};
 ghost use Rattle.yt_parser.specs.declared.cursor.Sign.TheVariants as declared_sign;
 ghost use Rattle.yt_parser.specs.declared.cursor.Stop.TheVariants.{Memory};
-ghost use Rattle.yt_parser.specs.Lexemes.{Tok, digits, toks_of, lexeme_of, IsLexeme, AreTokens};
+ghost use Rattle.yt_grammar.specs.Lexemes.{Tok, digits, toks_of, lexeme_of, IsLexeme, AreTokens};
 ghost use Rattle.yt_parser.specs.Signs.{lexeme_sign, sign_of, sign_is_key, sign_is_mark, sign_op, op_of_rank, place_next, IsSpan, AreSpans};
-ghost use Rattle.yt_parser.specs.Reading.{at_key, at_mark, at_word, at_number, key_reader, mark_reader, word_reader, number_reader, behind, op_at};
+ghost use Rattle.yt_grammar.specs.Reading.{at_key, at_mark, at_word, at_number, key_reader, mark_reader, word_reader, number_reader, behind, op_at};
 ghost use Rattle.yt_parser.specs.Results.{IsReading};
 
-use crate::ranks::op_rank;
-use crate::sign::{Keyword, Mark};
 use std::alloc::{AllocError, Global};
 use std::marker::Model;
+use yt_grammar::{Keyword, Mark, op_rank};
 use yt_graph::{Num, Op2, Place, Word};
 use yt_lexer::{Token, TokenKind, Tokens};
 use yt_list::Name;
@@ -124,7 +123,7 @@ pub(crate) struct Cursor<'a> {
 
 impl<'a> Model for Cursor<'a> {
     ghost use Rattle.std.specs.Prelude.{◌≡◌, List};
-    ghost use Rattle.yt_parser.specs.Lexemes.{Tok, toks_of, AreTokens};
+    ghost use Rattle.yt_grammar.specs.Lexemes.{Tok, toks_of, AreTokens};
     ghost use Rattle.yt_parser.specs.Signs.{sign_of, AreSpans};
 
     ghost Value = { List Tok };

@@ -3,20 +3,19 @@
 
 ghost use Rattle.std.specs.Prelude.{◌≡◌, ◌+◌, ◌^◌, ◌<◌, ◌≤◌, map, length, IfOk, None, Some};
 ghost use Rattle.yt_graph.specs.AstPicture.{two_sides, ast_expr_tree, ast_exprs_tree};
-ghost use Rattle.yt_parser.specs.declared.sign.Mark.TheVariants.{Comma};
-ghost use Rattle.yt_parser.specs.Grammar.{right_rank};
-ghost use Rattle.yt_parser.specs.Reading.{made, behind, behind_mark, one_or_more, op_at, chain, turns_at, args_reader, prim_reader, rank_reader, expr_reader};
+ghost use Rattle.yt_grammar.specs.declared.sign.Mark.TheVariants.{Comma};
+ghost use Rattle.yt_grammar.specs.Grammar.{right_rank, loosest};
+ghost use Rattle.yt_grammar.specs.Reading.{made, behind, behind_mark, one_or_more, op_at, chain, turns_at, args_reader, prim_reader, rank_reader, expr_reader};
 ghost use Rattle.yt_parser.specs.Results.{IsReading};
-ghost use Rattle.yt_parser.specs.Parts.{paren_reader, name_or_call_reader};
+ghost use Rattle.yt_grammar.specs.Parts.{paren_reader, name_or_call_reader};
 
 use crate::cursor::{Cursor, Stop};
 use crate::deep::{
     DeepExpr, DeepExprs, deep_call, deep_minus, deep_name, deep_negation, deep_number, deep_paren,
     deep_two,
 };
-use crate::ranks::{COMPARISON, LOOSEST, right_rank};
-use crate::sign::{Keyword, Mark};
 use std::alloc::Global;
+use yt_grammar::{COMPARISON, Keyword, LOOSEST, Mark, right_rank};
 use yt_graph::{AstExpr, Op2};
 use yt_list::Items;
 
@@ -29,7 +28,7 @@ pub(crate) fn expr(
     rank: u32,
 ) -> Result<DeepExpr, Stop>
     requires some { 0 < levels }
-    requires rank { rank ≤ 7 }
+    requires rank { rank ≤ loosest }
     ensures read { IsReading (λ d. ast_expr_tree d.expr) (expr_reader levels rank cursor.old) result cursor.new }
     ensures less { IfOk result (λ _. length cursor.new < length cursor.old) }
     ensures depth { IfOk result (λ d. d.depth ≤ levels) }
@@ -41,7 +40,7 @@ pub(crate) fn expr(
 #[cycle(expr)]
 fn ranked(cursor: &mut Cursor<'_>, alloc: Global, room: u32, rank: u32) -> Result<DeepExpr, Stop>
     requires room { room + 1 < 2 ^ 32 }
-    requires rank { rank ≤ 7 }
+    requires rank { rank ≤ loosest }
     ensures read { IsReading (λ d. ast_expr_tree d.expr) (rank_reader (expr_reader room) room rank cursor.old) result cursor.new }
     ensures less { IfOk result (λ _. length cursor.new < length cursor.old) }
     ensures depth { IfOk result (λ d. d.depth ≤ room + 1) }
@@ -214,7 +213,7 @@ fn args(cursor: &mut Cursor<'_>, alloc: Global, room: u32) -> Result<DeepExprs, 
 #[cycle(expr)]
 pub(crate) fn exprs(cursor: &mut Cursor<'_>, alloc: Global, levels: u32) -> Result<DeepExprs, Stop>
     requires { 0 < levels }
-    ensures read { IsReading (λ d. map ast_expr_tree d.exprs.items) (one_or_more (expr_reader levels 7) cursor.old) result cursor.new }
+    ensures read { IsReading (λ d. map ast_expr_tree d.exprs.items) (one_or_more (expr_reader levels loosest) cursor.old) result cursor.new }
     ensures less { IfOk result (λ _. length cursor.new < length cursor.old) }
     ensures depth { IfOk result (λ d. d.depth ≤ levels) }
 {
@@ -237,7 +236,7 @@ pub(crate) fn exprs(cursor: &mut Cursor<'_>, alloc: Global, levels: u32) -> Resu
 #[cycle(expr)]
 fn next_expr(cursor: &mut Cursor<'_>, alloc: Global, levels: u32) -> Result<DeepExpr, Stop>
     requires { 0 < levels }
-    ensures read { IsReading (λ d. ast_expr_tree d.expr) (behind_mark Comma (expr_reader levels 7) cursor.old) result cursor.new }
+    ensures read { IsReading (λ d. ast_expr_tree d.expr) (behind_mark Comma (expr_reader levels loosest) cursor.old) result cursor.new }
     ensures less { IfOk result (λ _. length cursor.new < length cursor.old) }
     ensures depth { IfOk result (λ d. d.depth ≤ levels) }
 {

@@ -2,18 +2,17 @@
 
 ghost use Rattle.std.specs.Prelude.{◌<◌, ◌≤◌, map, length, IfOk};
 ghost use Rattle.yt_graph.specs.AstPicture.{port_decl_tree};
-ghost use Rattle.yt_parser.specs.declared.sign.Keyword.TheVariants as keys;
-ghost use Rattle.yt_parser.specs.declared.sign.Mark.TheVariants.{Comma};
-ghost use Rattle.yt_parser.specs.Reading.{behind_mark, at_key, many, one_or_more, word_reader, source_reader, out_reader, params_reader, port_reader};
+ghost use Rattle.yt_grammar.specs.declared.sign.Keyword.TheVariants as keys;
+ghost use Rattle.yt_grammar.specs.declared.sign.Mark.TheVariants.{Comma};
+ghost use Rattle.yt_grammar.specs.Reading.{behind_mark, at_key, many, one_or_more, word_reader, source_reader, out_reader, params_reader, port_reader};
 ghost use Rattle.yt_parser.specs.Results.{IsReading};
-ghost use Rattle.yt_parser.specs.Parts.{every_reader, param_list_reader};
+ghost use Rattle.yt_grammar.specs.Parts.{every_reader, param_list_reader};
 
 use crate::cursor::{Cursor, Stop};
-use crate::limits::BLOCK_DEPTH;
 use crate::parse_item::{path, width};
 use crate::parse_stmt::block;
-use crate::sign::{Keyword, Mark};
 use std::alloc::Global;
+use yt_grammar::{Keyword, MOST_BLOCK_DEPTH, Mark};
 use yt_graph::{Num, OutDecl, OutDecls, PortDecl, PortDecls, Source, Word, Words};
 
 /// Ports, as many as there are.
@@ -40,7 +39,7 @@ fn port(cursor: &mut Cursor<'_>, alloc: Global) -> Result<PortDecl, Stop>
     let source = source(cursor, alloc)?;
     let params = params(cursor, alloc)?;
     let outs = outs(cursor, alloc)?;
-    let body = block(cursor, alloc, BLOCK_DEPTH)?;
+    let body = block(cursor, alloc, MOST_BLOCK_DEPTH)?;
     Ok(PortDecl {
         name,
         source,

@@ -2,16 +2,14 @@
 
 ghost use Rattle.std.specs.Prelude.{◌≡◌, ◌<◌, ◌≤◌, map, length, IfOk};
 ghost use Rattle.yt_graph.specs.AstPicture.{ast_expr_tree, ast_exprs_tree, ast_stmt_tree, ast_block_tree};
-ghost use Rattle.yt_parser.specs.Reading.{in_braces, many, value_reader, values_reader, at_stmt, stmt_reader, if_reader, repeat_reader, block_reader};
+ghost use Rattle.yt_grammar.specs.Reading.{in_braces, many, value_reader, values_reader, at_stmt, stmt_reader, if_reader, repeat_reader, block_reader};
 ghost use Rattle.yt_parser.specs.Results.{IsReading};
-ghost use Rattle.yt_parser.specs.Parts.{value_list_reader, let_reader, send_reader, assign_reader};
+ghost use Rattle.yt_grammar.specs.Parts.{value_list_reader, let_reader, send_reader, assign_reader};
 
 use crate::cursor::{Cursor, Stop};
-use crate::limits::EXPR_DEPTH;
 use crate::parse_expr::{expr, exprs};
-use crate::ranks::LOOSEST;
-use crate::sign::{Keyword, Mark};
 use std::alloc::Global;
+use yt_grammar::{Keyword, LOOSEST, MOST_EXPR_DEPTH, Mark};
 use yt_graph::{AstExpr, AstExprs, AstStmt, Stmts, ast_if, ast_if_else, ast_repeat};
 use yt_list::Items;
 
@@ -151,12 +149,12 @@ fn repeat(cursor: &mut Cursor<'_>, alloc: Global, blocks: u32) -> Result<AstStmt
 }
 
 /// An expression of a statement.
-#[tactic(auto, unfolding(crate::specs::Reading::value_reader))]
+#[tactic(auto, unfolding(yt_grammar::specs::Reading::value_reader))]
 fn value(cursor: &mut Cursor<'_>, alloc: Global) -> Result<AstExpr, Stop>
     ensures read { IsReading ast_expr_tree (value_reader cursor.old) result cursor.new }
     ensures less { IfOk result (λ _. length cursor.new < length cursor.old) }
 {
-    let value = expr(cursor, alloc, EXPR_DEPTH, LOOSEST)?;
+    let value = expr(cursor, alloc, MOST_EXPR_DEPTH, LOOSEST)?;
     Ok(value.expr)
 }
 
@@ -172,7 +170,7 @@ fn values(cursor: &mut Cursor<'_>, alloc: Global) -> Result<AstExprs, Stop>
 }
 
 /// The values of a send.
-#[tactic(auto, unfolding(crate::specs::Reading::value_reader))]
+#[tactic(auto, unfolding(yt_grammar::specs::Reading::value_reader))]
 fn value_list(cursor: &mut Cursor<'_>, alloc: Global) -> Result<AstExprs, Stop>
     ensures read { IsReading (λ v. map ast_expr_tree v.items) (value_list_reader cursor.old) result cursor.new }
     ensures less { IfOk result (λ _. length cursor.new ≤ length cursor.old) }
@@ -180,6 +178,6 @@ fn value_list(cursor: &mut Cursor<'_>, alloc: Global) -> Result<AstExprs, Stop>
     if cursor.at_mark(Mark::RightParen) {
         return Ok(Vec::new(alloc));
     }
-    let values = exprs(cursor, alloc, EXPR_DEPTH)?;
+    let values = exprs(cursor, alloc, MOST_EXPR_DEPTH)?;
     Ok(values.exprs)
 }

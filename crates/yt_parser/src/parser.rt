@@ -3,9 +3,10 @@
 ghost use Rattle.std.specs.Prelude.{◌≡◌, ◌≤◌, None, length, List, IfOk, IfErr};
 ghost use Rattle.yt_graph.specs.AstPicture.{ItemTree, ast_tree};
 ghost use Rattle.yt_graph.specs.AstWellFormed.{IsWritable};
+ghost use Rattle.yt_lexer.specs.Limits.{most_text_bytes};
 ghost use Rattle.yt_lexer.specs.Lexes.{Lexes};
-ghost use Rattle.yt_parser.specs.Lexemes.{toks_of};
-ghost use Rattle.yt_parser.specs.Grammar.{Spells};
+ghost use Rattle.yt_grammar.specs.Lexemes.{toks_of};
+ghost use Rattle.yt_grammar.specs.Grammar.{Spells};
 ghost use Rattle.yt_parser.specs.Parses.{IsParseFault, GivesTree};
 
 use crate::cursor::{Cursor, Stop};
@@ -29,7 +30,7 @@ pub enum ParseFault {
 /// exactly where the tokens spell no tree, unless memory runs out; its place is that of the end of the text where all
 /// tokens are the front of some that spell a tree.
 pub fn parse(alloc: Global, text: &[u8], tokens: &Tokens) -> Result<Ast, ParseFault>
-    requires short { length text.now ≤ 16777216 }
+    requires short { length text.now ≤ most_text_bytes }
     requires tokens { Lexes text.now 0 tokens.now None }
 
     // The tokens spell the tree.

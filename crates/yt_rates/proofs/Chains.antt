@@ -8,7 +8,7 @@ use Rattle.yt_graph.specs.declared.port.Feed.{Feed}
 use Rattle.yt_graph.specs.declared.port.Feed.TheVariants.{Input, Out}
 use Rattle.yt_graph.specs.Picture.{PortTree, GraphTree}
 use Rattle.yt_graph.specs.WellFormed.{IsFeedOfWidth, EndsWithin, IsWellFormed}
-use Rattle.yt_cost.proofs.Compiled.{fine_port}
+use Rattle.yt_cost.proofs.Lemmas.{fine_port}
 use Rattle.yt_rates.specs.Rates.{passed_on, stream_within, distance_within, stream_of, distance_of}
 
 -- what is said of an item that is there

@@ -1,6 +1,7 @@
-pub mod Chains
-pub mod Lists
-pub mod PassedOn
-pub mod Rated
-pub mod Examples
-pub mod GraphTasks
+pub mod Lemmas
+mod Chains
+mod Lists
+mod PassedOn
+mod Rated
+mod Examples
+mod GraphTasks

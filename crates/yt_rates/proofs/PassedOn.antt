@@ -8,7 +8,7 @@ use Rattle.yt_graph.specs.declared.port.OutHead.{OutHead}
 use Rattle.yt_graph.specs.Picture.{PortTree}
 use Rattle.yt_graph.specs.Cost.{greatest_sends}
 use Rattle.yt_cost.specs.Codes.{PortCode, ForCode, AreSendsOf}
-use Rattle.yt_cost.proofs.Compiled.{drop_at}
+use Rattle.yt_cost.proofs.Lemmas.{drop_at}
 use Rattle.yt_rates.specs.declared.stream.Stream.{Stream}
 use Rattle.yt_rates.specs.declared.fault.RateFault.{RateFault}
 use Rattle.yt_rates.specs.declared.fault.RateFault.TheVariants.{Zero, Span}

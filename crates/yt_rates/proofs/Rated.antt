@@ -14,7 +14,7 @@ use Rattle.yt_graph.specs.declared.port.Feed.{Feed}
 use Rattle.yt_graph.specs.declared.port.Feed.TheVariants.{Out}
 use Rattle.yt_graph.specs.Picture.{PortTree, GraphTree}
 use Rattle.yt_graph.specs.WellFormed.{IsFineInput, IsFeedOfWidth, IsWellFormed}
-use Rattle.yt_cost.proofs.Compiled.{fine_port, drop_at}
+use Rattle.yt_cost.proofs.Lemmas.{fine_port, drop_at}
 use Rattle.yt_rates.specs.declared.stream.Stream.{Stream}
 use Rattle.yt_rates.specs.declared.fault.RateFault.{RateFault}
 use Rattle.yt_rates.specs.declared.fault.RateFault.TheVariants.{Over, Zero, Span, Memory}

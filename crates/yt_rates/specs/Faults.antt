@@ -4,6 +4,8 @@ use Rattle.std.specs.Option.{option_or}
 use Rattle.yt_graph.specs.declared.port.OutHead.{OutHead}
 use Rattle.yt_graph.specs.Picture.{PortTree, GraphTree}
 use Rattle.yt_graph.specs.Cost.{greatest_sends}
+use Rattle.yt_set.specs.Limits.{most_ticks}
+use Rattle.yt_rates.specs.Limits.{most_reach}
 use Rattle.yt_rates.specs.declared.stream.Stream.{Stream}
 use Rattle.yt_rates.specs.declared.fault.RateFault.{RateFault}
 use Rattle.yt_rates.specs.declared.fault.RateFault.TheVariants.{Over, Zero, Span, Memory}
@@ -14,13 +16,13 @@ abbrev pub outs_fault : ℕ → PortTree → Stream → ℕ → List OutHead →
 outs_fault number port stream out [] = None
 outs_fault number port stream out (o ∷ rest) =
     if greatest_sends port out == 0 || (passed_on port stream out).period == 0 then Some (Zero number out)
-    else if nat_lt 4000000 (passed_on port stream out).start then Some (Span number)
+    else if nat_lt most_reach (passed_on port stream out).start then Some (Span number)
     else outs_fault number port stream (out + 1) rest
 
 -- the fault of a port with this number to which these messages come: too long a period, else that of its first out with one
 abbrev pub stream_fault : ℕ → PortTree → Stream → Option RateFault
 stream_fault number port stream =
-    if nat_lt 1000000 stream.period then Some (Over number stream.period) else outs_fault number port stream 1 port.outs
+    if nat_lt most_ticks stream.period then Some (Over number stream.period) else outs_fault number port stream 1 port.outs
 
 -- the fault of a port of the graph
 abbrev pub port_fault : GraphTree → ℕ → PortTree → Option RateFault
@@ -49,15 +51,15 @@ IsFaultOf decides (Over port period) = decides ≡ Some (Over port period)
 IsFaultOf decides (Zero port out) = decides ≡ Some (Zero port out)
 IsFaultOf decides (Span port) = decides ≡ Some (Span port)
 
--- so many outs of a port to which these messages come are sent on, with a gap of 1 at least and a reach of 4,000,000 at most
+-- so many outs of a port to which these messages come are sent on, with a gap of 1 at least and a reach within the limit
 pub record ArePassedWithin (port : PortTree) (stream : Stream) (count : ℕ) : Type 0 where
   pub sends : (out : ℕ) → 1 ≤ out → out ≤ count → 1 ≤ greatest_sends port out
   pub gap : (out : ℕ) → 1 ≤ out → out ≤ count → 1 ≤ (passed_on port stream out).period
-  pub reach : (out : ℕ) → 1 ≤ out → out ≤ count → (passed_on port stream out).start ≤ 4000000
+  pub reach : (out : ℕ) → 1 ≤ out → out ≤ count → (passed_on port stream out).start ≤ most_reach
 
--- the period of a port is from 1 to 1,000,000, its messages come within 4,000,000 ticks of the input's, and its outs are within their limits
+-- the period of a port and the time within which its messages come of the input's are within their limits, and its outs are within their limits
 pub record IsWithinRates (g : GraphTree) (port : PortTree) : Type 0 where
   pub some_period : 1 ≤ period_of g port
-  pub period : period_of g port ≤ 1000000
-  pub start : start_of g port ≤ 4000000
+  pub period : period_of g port ≤ most_ticks
+  pub start : start_of g port ≤ most_reach
   pub outs : ArePassedWithin port (stream_of g port) (length port.outs)

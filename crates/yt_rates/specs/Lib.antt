@@ -1,5 +1,6 @@
-pub mod Rates
-pub mod Faults
-pub mod Tables
-pub mod Laws
 pub mod Acceptance
+pub mod Faults
+pub mod Laws
+pub mod Limits
+pub mod Rates
+pub mod Tables

@@ -5,6 +5,7 @@ ghost use Rattle.yt_graph.specs.Picture.{graph_tree};
 ghost use Rattle.yt_graph.specs.WellFormed.{IsWellFormed};
 ghost use Rattle.yt_cost.specs.Codes.{AreCodesOf};
 ghost use Rattle.yt_cost.specs.Faults.{IsWithinLimits};
+ghost use Rattle.yt_fits.specs.Loads.{load_sum};
 ghost use Rattle.yt_rates.specs.Faults.{rate_fault};
 ghost use Rattle.yt_rates.specs.Acceptance.{IsAccepted, IsFitting, IsCauseOf};
 
@@ -15,7 +16,7 @@ use crate::table::RateTable;
 use crate::tasks::task_set;
 use std::alloc::Global;
 use yt_cost::Codes;
-use yt_fits::fits;
+use yt_fits::{LoadSum, fits};
 use yt_graph::Graph;
 use yt_set::TaskSet;
 
@@ -41,7 +42,7 @@ pub fn accept(alloc: Global, graph: Graph, codes: Codes) -> Result<Accepted, Not
     ensures cause { IfErr result (λ refused. IsCauseOf (graph_tree graph) refused.cause) }
 {
     match judge(alloc, &graph, &codes) {
-        Ok(fit) => Ok(Accepted::new(graph, codes, fit.rates, fit.set)),
+        Ok(fit) => Ok(Accepted::new(graph, codes, fit.rates, fit.set, fit.load)),
         Err(cause) => Err(NotAccepted {
             graph,
             codes,
@@ -50,26 +51,28 @@ pub fn accept(alloc: Global, graph: Graph, codes: Codes) -> Result<Accepted, Not
     }
 }
 
-/// The rates and the tasks of a graph that fits.
+/// The rates, the tasks and the load of a graph that fits.
 #[derive(Drop)]
 struct Fitting {
     rates: RateTable,
     set: TaskSet,
+    load: LoadSum,
 }
 
-/// The rates and the tasks of a graph, or why it is not accepted.
+/// The rates, the tasks and the load of a graph, or why it is not accepted.
 fn judge(alloc: Global, graph: &Graph, codes: &Codes) -> Result<Fitting, AcceptCause>
     requires well_formed { IsWellFormed (graph_tree graph.now) }
     requires codes { AreCodesOf (graph_tree graph.now) codes.now }
     requires costs { All IsWithinLimits (graph_tree graph.now).ports }
     ensures fits { IfOk result (λ fit. IsFitting (graph_tree graph.now) fit.rates fit.set) }
+    ensures load { IfOk result (λ fit. fit.load ≡ load_sum fit.set) }
     ensures no_fault { IfOk result (λ _. rate_fault (graph_tree graph.now) ≡ None) }
     ensures cause { IfErr result (λ cause. IsCauseOf (graph_tree graph.now) cause) }
 {
     let rates = rates(alloc, graph, codes)?;
     let set = task_set(alloc, graph, codes, &rates)?;
     match fits(&set) {
-        Ok(_) => Ok(Fitting { rates, set }),
+        Ok(load) => Ok(Fitting { rates, set, load }),
         Err(why) => Err(AcceptCause::Unfit(why, set)),
     }
 }

@@ -5,6 +5,8 @@ ghost use Rattle.std.specs.List.{All};
 ghost use Rattle.yt_graph.specs.Picture.{port_tree};
 ghost use Rattle.yt_graph.specs.WellFormed.{IsFineOut};
 ghost use Rattle.yt_cost.specs.Codes.{ForCode, AreSendsOf};
+ghost use Rattle.yt_set.specs.Limits.{most_ticks};
+ghost use Rattle.yt_rates.specs.Limits.{most_reach};
 ghost use Rattle.yt_rates.specs.Faults.{outs_fault, ArePassedWithin};
 ghost use Rattle.yt_rates.specs.Tables.{ArePassedOn};
 
@@ -29,8 +31,8 @@ pub(crate) fn rate_outs(
     requires sends { ForCode codes.now number (λ kept. AreSendsOf (port_tree port.now) kept.sends) }
     requires few { length port.now.outs ≤ 8 }
     requires fine { All IsFineOut port.now.outs }
-    requires period { stream.period ≤ 1000000 }
-    requires start { stream.start ≤ 4000000 }
+    requires period { stream.period ≤ most_ticks }
+    requires start { stream.start ≤ most_reach }
     ensures outs { IfOk result (λ outs. ArePassedOn (port_tree port.now) stream outs.items) }
     ensures limits { IfOk result (λ _. ArePassedWithin (port_tree port.now) stream (length port.now.outs)) }
     ensures no_fault { IfOk result (λ _. outs_fault number (port_tree port.now) stream 1 port.now.outs ≡ None) }
@@ -60,8 +62,8 @@ pub(crate) fn rate_outs(
 fn passed_on(stream: Stream, every: u32, sends: u32) -> Stream
     requires some { 1 ≤ sends }
     requires every { every ≤ 1000 }
-    requires period { stream.period ≤ 1000000 }
-    requires start { stream.start ≤ 4000000 }
+    requires period { stream.period ≤ most_ticks }
+    requires start { stream.start ≤ most_reach }
     ensures period { result.period ≡ every * stream.period / sends }
     ensures start { result.start ≡ stream.start + stream.period + (sends - 1) * (every * stream.period / sends) }
 {

@@ -41,8 +41,5 @@ pub fn task_set(
             resource,
         })?;
     }
-    match TaskSet::new(tasks) {
-        Ok(set) => Ok(set),
-        Err(_) => unreachable!(),
-    }
+    Ok(TaskSet::of(tasks))
 }

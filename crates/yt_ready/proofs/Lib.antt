@@ -1,2 +1,2 @@
-mod Falls
-pub mod Orders
+pub mod Lemmas
+mod Orders

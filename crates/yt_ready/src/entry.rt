@@ -18,7 +18,7 @@ pub struct Entry {
 }
 
 /// Whether an entry comes before another: by the deadline; begun before not begun; the arrival; the task; the number.
-#[tactic(auto, unfolding(crate::specs::Order::rank, crate::specs::Order::precedes))]
+#[tactic(auto, unfolding(crate::specs::Order::rank, yt_order::specs::Words::precedes))]
 pub(crate) fn comes_before(a: &Entry, b: &Entry) -> bool
     ensures { result ≡ comes_before a.now b.now }
 {

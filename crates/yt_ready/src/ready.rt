@@ -2,7 +2,7 @@
 ghost use Rattle.std.specs.Prelude.{◌≡◌, ◌+◌, ◌≤◌, ℕ, ◌<◌, [], length, slice_index_or, true, false, IfOk, MatchOption};
 ghost use Rattle.std.specs.List.{Contains};
 ghost use Rattle.yt_ready.specs.Order.{comes_before, IsLeast, IsFalling};
-ghost use Rattle.yt_ready.specs.Waiting.{HasOneMore};
+ghost use Rattle.yt_order.specs.Falling.{HasOneMore};
 
 use crate::entry::{Entry, comes_before};
 use std::alloc::{AllocError, Global};

@@ -64,7 +64,7 @@ overload_misses cost period over log =
     let tasks = one_task cost period in
     let d = one_task_deadline cost period item refl in
     let w = done_within log item.job (deadline_of tasks item) in
-    (item, inl refl, omega arith, omega arith)
+    (item, inl refl, record { due = omega arith; short = omega arith })
 
 pub overload_legal : (cost period : ℕ) → 1 ≤ cost → IsLegal (one_task cost period) (items_from cost 0 (0 ∷ []))
 overload_legal cost period some = alone_legal cost period (0 ∷ []) some (omega arith, tt)

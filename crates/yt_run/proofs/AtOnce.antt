@@ -4,11 +4,12 @@ use Rattle.std.proofs.lemmas.Bool.{cases_Bool, cases_lt, both_ways, cond-true, c
 use Rattle.yt_set.specs.declared.task.Task.{Task}
 use Rattle.yt_log.specs.declared.job.Job.{Job}
 use Rattle.yt_log.specs.declared.plan.PlanItem.{PlanItem}
-use Rattle.yt_log.specs.EdfDdm.{rank, precedes, waits, sooner, least, job_of, choice, IsEdfDdm}
+use Rattle.yt_log.specs.EdfDdm.{rank, waits, sooner, least, job_of, choice, IsEdfDdm}
+use Rattle.yt_order.specs.Words.{precedes}
 use Rattle.yt_log.specs.Tasks.{Has}
 use Rattle.yt_log.specs.Ticks.{Ticks, tick, done, first_tick, IsWaiting, IsLawful, IsWorkConserving, IsActive, IsExclusive}
-use Rattle.yt_log.proofs.Choices.{below_end, waits_true, waits_from}
-use Rattle.yt_log.proofs.Ticks.{done-zero, done_yes, done_no}
+use Rattle.yt_log.proofs.Lemmas.{below_end, waits_true, waits_from}
+use Rattle.yt_log.proofs.Lemmas.{done-zero, done_yes, done_no}
 use Rattle.yt_serial.specs.Beginnings.{busy_until}
 use Rattle.yt_serial.proofs.Lemmas.{first_tick_at, busy_until_le}
 

@@ -5,7 +5,7 @@ use Rattle.std.specs.Fmt.{decimal, signed_decimal}
 use Rattle.std.specs.Int.Signed.{mag}
 use Rattle.std.proofs.lemmas.Grind.{common_steps}
 use Rattle.std.proofs.lemmas.List.Sums.{AllPass-from_list_all, list_all-from_AllPass}
-use Rattle.yt_base.proofs.Decimals.{decimal_passes, signed_decimal_passes}
+use Rattle.yt_base.proofs.Lemmas.{decimal_passes, signed_decimal_passes}
 use Rattle.yt_run.specs.Readable.{is_not, stays_in_word}
 use Rattle.yt_run.specs.RunText.{parts_between}
 

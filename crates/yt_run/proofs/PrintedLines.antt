@@ -8,15 +8,17 @@ use Rattle.std.proofs.lemmas.List.{append-nil}
 use Rattle.std.proofs.lemmas.List.Elements.{All-head, All-tail}
 use Rattle.std.proofs.lemmas.List.Folds.{list_all-append}
 use Rattle.yt_base.specs.Digits.{value_of, signed_of_text}
-use Rattle.yt_base.proofs.Decimals.{value_of-decimal, signed_of_text-decimal}
+use Rattle.yt_base.proofs.Lemmas.{value_of-decimal, signed_of_text-decimal}
 use Rattle.yt_graph.specs.declared.graph.Output.{Output}
 use Rattle.yt_graph.specs.Picture.{GraphTree}
 use Rattle.yt_log.specs.declared.job.Job.{Job}
 use Rattle.yt_log.specs.declared.job.Segment.{Segment}
 use Rattle.yt_serial.specs.declared.shown.OutLine.{OutLine}
 use Rattle.yt_run.specs.Readable.{is_not, stays_in_word, HasReadableNames}
-use Rattle.yt_run.specs.RunText.{label_of, port_label, no_output, output_name, segment_line, spaced_values, out_line, end_line, parts_between, number_in, values_in, read_segment, read_out, read_end, line_fields}
-use Rattle.yt_serial.specs.SerialHandling.{no_port}
+use Rattle.yt_run.specs.RunText.{spaced_values, out_line, parts_between, number_in, values_in, read_segment, read_out, read_end, line_fields}
+use Rattle.yt_log.specs.Printed.{segment_line, end_line}
+use Rattle.yt_graph.specs.Labels.{label_of, port_label, no_output, output_name}
+use Rattle.yt_graph.specs.Labels.{no_port}
 use Rattle.yt_run.proofs.Pieces.{parts_between-piece, parts_between-last, without_space, without_feed, decimal-stays_in_word, signed_decimal-stays_in_word}
 use Rattle.yt_run.proofs.PrintedNames.{number_in-name, name-stays_in_word}
 
@@ -124,7 +126,7 @@ end_fields time = codes "end" ∷ decimal time ∷ []
 
 -- the line of a segment, read
 module _ (graph : GraphTree) (names : HasReadableNames graph) (s : Segment) (told : IsReadableSegment (length graph.ports) s) where
-  pub line_fields-segment_line : (rest : List ℕ) → line_fields (segment_line graph s ++ rest) ≡ segment_fields graph s ∷ line_fields rest
+  pub line_fields-segment_line : (rest : List ℕ) → line_fields (segment_line (port_label graph s.job.task) s ++ rest) ≡ segment_fields graph s ∷ line_fields rest
   line_fields-segment_line rest =
       let label : list_all stays_in_word (port_label graph s.job.task) ≡ true = name-stays_in_word label_of graph.ports no_port s.job.task names.ports told.job.from_one told.job.in_set in
       run_line-fields (decimal s.from) (decimal s.to) (port_label graph s.job.task) (decimal s.job.number) rest

@@ -11,7 +11,9 @@ use Rattle.yt_log.specs.Segments.{segments_of, ticks_of}
 use Rattle.yt_log.specs.Ticks.{Ticks}
 use Rattle.yt_serial.specs.declared.shown.OutLine.{OutLine}
 use Rattle.yt_run.specs.Readable.{HasReadableNames}
-use Rattle.yt_run.specs.RunText.{ReadBack, segment_line, out_line, out_lines, end_line, around_segment, told_text, run_text, output_name, read_segment, read_out, read_end, line_fields, first_or_zero, read_back}
+use Rattle.yt_run.specs.RunText.{ReadBack, out_line, out_lines, around_segment, told_text, run_text, read_segment, read_out, read_end, line_fields, first_or_zero, read_back}
+use Rattle.yt_log.specs.Printed.{segment_line, end_line}
+use Rattle.yt_graph.specs.Labels.{output_name, port_label}
 use Rattle.yt_run.proofs.PrintedLines.{IsReadableJob, IsReadableSegment, IsReadableLine, segment_fields, out_fields, end_fields, line_fields-segment_line, line_fields-out_line, line_fields-end_line, read_segment-segment_fields, read_out-out_fields, read_end-end_fields}
 use Rattle.yt_run.proofs.ReadBackSegments.{segments_of-IsSegmentBelow}
 
@@ -55,14 +57,14 @@ module _ (graph : GraphTree) (names : HasReadableNames graph) where
       ((lines : List OutLine) → All (IsReadableLine (length graph.outputs)) lines → IsReadAs (text lines) (fields lines)) →
       (lines : List OutLine) → All (IsReadableLine (length graph.outputs)) lines → IsReadAs (around_segment graph s text lines) (around_fields graph s fields lines)
   around_segment-read s told text fields same [] all =
-      line_then (segment_line graph s) (text []) (segment_fields graph s) (fields []) (line_fields-segment_line graph names s told) (same [] all)
+      line_then (segment_line (port_label graph s.job.task) s) (text []) (segment_fields graph s) (fields []) (line_fields-segment_line graph names s told) (same [] all)
   around_segment-read s told text fields same (l ∷ lines) all =
-      one_of (nat_lt l.time s.to) (out_line graph l ++ around_segment graph s text lines) (segment_line graph s ++ text (l ∷ lines))
+      one_of (nat_lt l.time s.to) (out_line graph l ++ around_segment graph s text lines) (segment_line (port_label graph s.job.task) s ++ text (l ∷ lines))
       (out_fields graph l ∷ around_fields graph s fields lines) (segment_fields graph s ∷ fields (l ∷ lines))
       (line_then (out_line graph l) (around_segment graph s text lines) (out_fields graph l) (around_fields graph s fields lines)
       (line_fields-out_line graph names l (All-head (IsReadableLine (length graph.outputs)) l lines all))
       (around_segment-read s told text fields same lines (All-tail (IsReadableLine (length graph.outputs)) l lines all)))
-      (line_then (segment_line graph s) (text (l ∷ lines)) (segment_fields graph s) (fields (l ∷ lines)) (line_fields-segment_line graph names s told) (same (l ∷ lines) all))
+      (line_then (segment_line (port_label graph s.job.task) s) (text (l ∷ lines)) (segment_fields graph s) (fields (l ∷ lines)) (line_fields-segment_line graph names s told) (same (l ∷ lines) all))
 
   -- the lines of all segments
   told_text-read : (segments : List Segment) → All (IsReadableSegment (length graph.ports)) segments → (lines : List OutLine) → All (IsReadableLine (length graph.outputs)) lines →

@@ -7,7 +7,7 @@ use Rattle.yt_log.specs.declared.job.Job.{Job}
 use Rattle.yt_log.specs.declared.job.Segment.{Segment}
 use Rattle.yt_log.specs.Segments.{ends_in, with_run, with_tick, segments_below, segments_of}
 use Rattle.yt_log.specs.Ticks.{Ticks, tick}
-use Rattle.yt_log.proofs.SegmentLists.{run_of, some_from_ends_in}
+use Rattle.yt_log.proofs.Lemmas.{run_of, some_from_ends_in}
 
 -- what holds of each segment still does when ticks go to a job
 with_run-keeps : (Q : Segment → Type 0) (segments : List Segment) (from to : ℕ) (job : Job) → All Q segments → ((s : Segment) → Q s → Q (record s { to = to })) → Q (run_of from to job) → All Q (with_run segments from to job)

@@ -12,7 +12,7 @@ use Rattle.yt_log.specs.declared.plan.PlanItem.{PlanItem}
 use Rattle.yt_log.specs.Segments.{segments_of}
 use Rattle.yt_log.specs.Tasks.{Has}
 use Rattle.yt_log.specs.Ticks.{Ticks, IsLawful}
-use Rattle.yt_log.proofs.SegmentLemmas.{ticks_of-segments_of}
+use Rattle.yt_log.proofs.Lemmas.{ticks_of-segments_of}
 use Rattle.yt_serial.specs.declared.shown.OutLine.{OutLine}
 use Rattle.yt_serial.specs.declared.trace.Message.{Message}
 use Rattle.yt_run.specs.Alone.{alone_from, items_from}

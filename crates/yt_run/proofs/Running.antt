@@ -8,12 +8,12 @@ use Rattle.yt_graph.specs.Cost.{greatest_cost}
 use Rattle.yt_graph.specs.Picture.{ExprTree, GraphTree, PortTree}
 use Rattle.yt_log.specs.declared.plan.PlanItem.{PlanItem}
 use Rattle.yt_log.specs.EdfDdm.{IsEdfDdm}
-use Rattle.yt_log.specs.Order.{sort_by}
+use Rattle.yt_order.specs.Sorting.{sort_by}
 use Rattle.yt_log.specs.Patterns.{item_before}
 use Rattle.yt_log.specs.Plan.{IsLegal, jobs_of}
 use Rattle.yt_log.specs.Tasks.{Has}
 use Rattle.yt_log.specs.Ticks.{Ticks, done, IsLawful, IsWorkConserving, IsExclusive, KeepsDeadlines}
-use Rattle.yt_log.proofs.Appends.{jobs_none}
+use Rattle.yt_log.proofs.Lemmas.{jobs_none}
 use Rattle.yt_rates.specs.Tables.{tasks_of}
 use Rattle.yt_serial.specs.declared.shown.OutLine.{OutLine}
 use Rattle.yt_serial.specs.declared.trace.Message.{Message}

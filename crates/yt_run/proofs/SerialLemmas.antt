@@ -10,7 +10,7 @@ use Rattle.yt_graph.specs.Meaning.{handling, expr_value}
 use Rattle.yt_log.specs.declared.job.Job.{Job}
 use Rattle.yt_log.specs.declared.plan.PlanItem.{PlanItem}
 use Rattle.yt_log.specs.Plan.{jobs_of}
-use Rattle.yt_log.proofs.Appends.{jobs_push_same}
+use Rattle.yt_log.proofs.Lemmas.{jobs_push_same}
 use Rattle.yt_serial.specs.declared.shown.OutLine.{OutLine}
 use Rattle.yt_serial.specs.declared.trace.Message.{Message}
 use Rattle.yt_serial.specs.Beginnings.{nth_job}

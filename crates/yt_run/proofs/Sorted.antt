@@ -2,7 +2,7 @@
 use Rattle.std.proofs.Common.{◌≡◌, ℕ, suc, ◌+◌, Bool, false, List, [], ◌∷◌, refl, ap, ◌∙◌, arith}
 use Rattle.std.proofs.lemmas.Bool.{cond-false}
 use Rattle.std.proofs.lemmas.Bool.Decides.{nat_tests}
-use Rattle.yt_log.specs.Order.{insert_by, sort_by}
+use Rattle.yt_order.specs.Sorting.{insert_by, sort_by}
 use Rattle.yt_log.specs.Patterns.{item_before}
 use Rattle.yt_serial.specs.declared.trace.Message.{Message}
 use Rattle.yt_run.specs.Alone.{TimesAreApartFrom, TimesAreApart, items_from}

@@ -8,8 +8,9 @@ use Rattle.yt_graph.specs.Cost.{greatest_cost}
 use Rattle.yt_graph.specs.Picture.{GraphTree}
 use Rattle.yt_log.specs.declared.job.Job.{Job}
 use Rattle.yt_log.specs.declared.plan.PlanItem.{PlanItem}
-use Rattle.yt_log.specs.EdfDdm.{lowered, current_deadline, rank, precedes, waits, sooner, least, job_of, choice}
-use Rattle.yt_log.specs.Order.{sort_by}
+use Rattle.yt_log.specs.EdfDdm.{lowered, current_deadline, rank, waits, sooner, least, job_of, choice}
+use Rattle.yt_order.specs.Words.{precedes}
+use Rattle.yt_order.specs.Sorting.{sort_by}
 use Rattle.yt_log.specs.Plan.{same_job, deadline_of, jobs_of}
 use Rattle.yt_log.specs.Segments.{with_run, with_tick, ends_in, segments_below, job_at, ticks_of}
 use Rattle.yt_log.specs.Tasks.{task_of}
@@ -19,7 +20,8 @@ use Rattle.yt_serial.specs.declared.shown.OutLine.{OutLine}
 use Rattle.yt_serial.specs.declared.trace.Message.{Message}
 use Rattle.yt_serial.specs.Beginnings.{newcomer, begun_below, order_of, busy_until}
 use Rattle.yt_run.specs.First.{the_message, the_number, the_port, graph_of}
-use Rattle.yt_serial.specs.PortMessages.{PortMessage, numbered}
+use Rattle.yt_serial.specs.PortMessages.{PortMessage}
+use Rattle.yt_list.specs.Numbered.{numbered}
 use Rattle.yt_run.specs.RunText.{run_text, read_back}
 use Rattle.yt_serial.specs.SerialHandling.{Handled, Serial, handled_of, handled_along, plan_of_log}
 use Rattle.yt_serial.specs.Told.{line_before, latest, IsPromisedRun}

@@ -6,9 +6,11 @@ use Rattle.yt_graph.specs.Cost.{greatest_cost}
 use Rattle.yt_graph.specs.Meaning.{expr_value}
 use Rattle.yt_graph.specs.Picture.{ExprTree, num, local, two, no_exprs, more_exprs, send, empty, more, GraphTree, PortTree}
 use Rattle.yt_rates.specs.Rates.{period_of}
+use Rattle.yt_set.specs.Limits.{most_ticks}
+use Rattle.yt_serial.specs.Limits.{most_time, most_trace}
 use Rattle.yt_serial.specs.declared.shown.OutLine.{OutLine}
 use Rattle.yt_serial.specs.declared.trace.Message.{Message}
-use Rattle.yt_serial.specs.SerialHandling.{no_port}
+use Rattle.yt_graph.specs.Labels.{no_port}
 
 -- what a sum adds: the message's number, or a number that is written
 pub data Operand : Type 0 where
@@ -68,7 +70,7 @@ AreSmallOperands (x ∷ xs) = IsSmallOperand x × AreSmallOperands xs
 -- the numbers are in their ranges
 pub record IsInRange (d : First) : Type 0 where
   pub some : 1 ≤ d.period
-  pub most : d.period ≤ 1000000
+  pub most : d.period ≤ most_ticks
   pub few : length d.operands < 32
   pub first : IsSmallOperand d.operand
   pub others : AreSmallOperands d.operands
@@ -105,11 +107,11 @@ the_period graph = period_of graph (the_port graph)
 abbrev pub FitsFirst : GraphTree → Type 0
 FitsFirst graph = greatest_cost (the_port graph) ≤ the_period graph
 
--- each message is one number of the first input, at most 4,000,000 ticks from the start
+-- each message is one number of the first input, and comes within the limit
 pub record IsFirstMessage (message : Message) : Type 0 where
   pub first : message.input ≡ 1
   pub one : length message.values ≡ 1
-  pub in_time : message.time ≤ 4000000
+  pub in_time : message.time ≤ most_time
 
 abbrev pub AreFirstMessages : List Message → Type 0
 AreFirstMessages [] = Unit {0}
@@ -128,4 +130,4 @@ AreSpaced period (message ∷ trace) = ComeLater trace × AreSpaced period trace
 pub record KeepsPeriod (graph : GraphTree) (trace : List Message) : Type 0 where
   pub messages : AreFirstMessages trace
   pub spaced : AreSpaced (the_period graph) trace
-  pub few : length trace ≤ 200000
+  pub few : length trace ≤ most_trace

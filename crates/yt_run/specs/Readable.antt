@@ -3,7 +3,7 @@ use Rattle.std.specs.Prelude.{◌≡◌, ◌≢◌, ℕ, ◌==◌, ◌&&◌, not
 use Rattle.std.specs.List.{list_all}
 use Rattle.yt_graph.specs.declared.graph.Output.{Output}
 use Rattle.yt_graph.specs.Picture.{GraphTree}
-use Rattle.yt_run.specs.RunText.{label_of}
+use Rattle.yt_graph.specs.Labels.{label_of}
 
 -- a byte other than c
 abbrev pub is_not : ℕ → ℕ → Bool

@@ -1,35 +1,16 @@
 -- The printed text of a run, and how a log and output lines are read back from it.
-use Rattle.std.specs.Prelude.{ℕ, suc, ◌-◌, ◌==◌, nat_lt, List, [], ◌∷◌, ◌++◌, Option, Some, None, ℤ, length, map, slice_index_or, bytes_eq, codes, if◌then◌else◌}
+use Rattle.std.specs.Prelude.{ℕ, suc, ◌==◌, nat_lt, List, [], ◌∷◌, ◌++◌, Option, Some, None, ℤ, length, map, bytes_eq, codes, if◌then◌else◌}
 use Rattle.std.specs.List.{onto_first, filter_map}
 use Rattle.std.specs.Fmt.{decimal, signed_decimal}
 use Rattle.yt_base.specs.Digits.{value_of, signed_of_text}
 use Rattle.yt_graph.specs.declared.graph.Output.{Output}
-use Rattle.yt_graph.specs.Picture.{GraphTree, PortTree}
+use Rattle.yt_graph.specs.Labels.{label_of, output_name, port_label}
+use Rattle.yt_graph.specs.Picture.{GraphTree}
 use Rattle.yt_log.specs.declared.job.Segment.{Segment}
+use Rattle.yt_log.specs.Printed.{end_line, segment_line}
 use Rattle.yt_log.specs.Segments.{segments_of, ticks_of}
 use Rattle.yt_log.specs.Ticks.{Ticks}
 use Rattle.yt_serial.specs.declared.shown.OutLine.{OutLine}
-use Rattle.yt_serial.specs.SerialHandling.{no_port}
-
--- a port's name in a text: its process's, a dot, and its own
-abbrev pub label_of : PortTree → List ℕ
-label_of port = port.process ++ 46 ∷ port.name
-
--- the name of the port of a number, from 1
-abbrev pub port_label : GraphTree → ℕ → List ℕ
-port_label graph number = label_of (slice_index_or graph.ports (number - 1) no_port)
-
-abbrev pub no_output : Output
-no_output = record { name = []; port = 0; out = 0 }
-
--- the name of the output of a number, from 1
-abbrev pub output_name : GraphTree → ℕ → List ℕ
-output_name graph number = (slice_index_or graph.outputs (number - 1) no_output).name
-
--- `run FROM TO PORT NUMBER`
-abbrev pub segment_line : GraphTree → Segment → List ℕ
-segment_line graph s =
-    codes "run " ++ (decimal s.from ++ (32 ∷ decimal s.to ++ (32 ∷ port_label graph s.job.task ++ (32 ∷ decimal s.job.number ++ 10 ∷ []))))
 
 -- each number behind a space
 abbrev pub spaced_values : List ℤ → List ℕ
@@ -40,19 +21,15 @@ spaced_values (v ∷ vs) = 32 ∷ signed_decimal v ++ spaced_values vs
 abbrev pub out_line : GraphTree → OutLine → List ℕ
 out_line graph l = codes "out " ++ (decimal l.time ++ (32 ∷ output_name graph l.output ++ (spaced_values l.values ++ 10 ∷ [])))
 
--- `end TIME`
-abbrev pub end_line : ℕ → List ℕ
-end_line time = codes "end " ++ (decimal time ++ 10 ∷ [])
-
 abbrev pub out_lines : GraphTree → List OutLine → List ℕ
 out_lines graph [] = []
 out_lines graph (l ∷ lines) = out_line graph l ++ out_lines graph lines
 
 -- the lines before a segment's end, the segment, and what is left
 abbrev pub around_segment : GraphTree → Segment → (List OutLine → List ℕ) → List OutLine → List ℕ
-around_segment graph s rest [] = segment_line graph s ++ rest []
+around_segment graph s rest [] = segment_line (port_label graph s.job.task) s ++ rest []
 around_segment graph s rest (l ∷ lines) =
-    if nat_lt l.time s.to then out_line graph l ++ around_segment graph s rest lines else segment_line graph s ++ rest (l ∷ lines)
+    if nat_lt l.time s.to then out_line graph l ++ around_segment graph s rest lines else segment_line (port_label graph s.job.task) s ++ rest (l ∷ lines)
 
 -- segments at their ends and lines at their times, a segment before the lines of its end
 abbrev pub told_text : GraphTree → List Segment → List OutLine → List ℕ

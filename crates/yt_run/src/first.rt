@@ -3,6 +3,7 @@ ghost use Rattle.std.specs.Prelude.{◌≡◌, ◌+◌, ◌<◌, ◌≤◌, ◌^
 ghost use Rattle.yt_graph.specs.Picture.{ExprTree, expr_tree, graph_tree, port_tree};
 ghost use Rattle.yt_graph.specs.Meaning.{expr_ticks, expr_value};
 ghost use Rattle.yt_graph.specs.Cost.{greatest_cost};
+ghost use Rattle.yt_set.specs.Limits.{most_ticks};
 ghost use Rattle.yt_run.specs.First.{IsFirstGraph, IsSent, IsSum, the_period, the_port};
 
 use yt_graph::{Expr, ExprParts, Graph, Parts, Port, open, open_expr};
@@ -22,7 +23,7 @@ pub fn first_period(graph: &Graph) -> u64
     requires { IsFirstGraph (graph_tree graph.now) }
     ensures period { result ≡ the_period (graph_tree graph.now) }
     ensures least { 1 ≤ result }
-    ensures most { result ≤ 1000000 }
+    ensures most { result ≤ most_ticks }
 {
     graph.inputs.at(0).period
 }

@@ -1,6 +1,7 @@
 //! Whether sets fit, by their load and by the room that jobs leave.
 use crate::fixtures::{TaskRow, set_of};
 use std::alloc::Global;
+use std::process::Abort;
 use std::test::Fail;
 use yt_fits::{Breach, LoadSum, Unfit, fits, interval_plain};
 
@@ -58,7 +59,9 @@ fn loads_up_to_the_whole_fit(rt: HostRuntime) -> Result<(), Fail> {
 }
 
 /// Three tasks, and where the first of them lacks room: the task, the span and the need.
-const INTERVALS: [([TaskRow; 3], Option<(u32, u64, u128)>); 7] = [
+type IntervalRow = ([TaskRow; 3], Option<(u32, u64, u128)>);
+
+const INTERVALS: [IntervalRow; 7] = [
     ([(1, 4, 1), (5, 20, 1), (1, 20, 0)], Some((2, 5, 6))),
     ([(1, 4, 1), (4, 20, 1), (1, 20, 0)], None),
     ([(3, 6, 0), (1, 5, 1), (5, 30, 1)], Some((3, 7, 9))),
@@ -68,13 +71,19 @@ const INTERVALS: [([TaskRow; 3], Option<(u32, u64, u128)>); 7] = [
     ([(1, 4, 0), (5, 20, 0), (5, 20, 0)], None),
 ];
 
-#[test]
-fn a_span_without_room_is_found(rt: HostRuntime) -> Result<(), Fail> {
-    for (tasks, expected) in &INTERVALS {
+/// Checks where each set lacks room.
+fn judge_intervals(rt: &(impl Abort + AllocGlobal), rows: &[IntervalRow]) -> Result<(), Fail> {
+    for (tasks, expected) in rows {
         let set = set_of(rt.alloc(), tasks.as_slice())?;
         let breach = expected.map(|(task, len, need)| Breach { task, len, need });
         assert_eq!(rt; interval_plain(&set), breach);
         assert_eq!(rt; fits(&set).err(), breach.map(Unfit::Interval));
     }
     Ok(())
+}
+
+#[test]
+fn a_span_without_room_is_found(rt: HostRuntime) -> Result<(), Fail> {
+    let rows = INTERVALS;
+    judge_intervals(&rt, rows.as_slice())
 }

@@ -1,8 +1,9 @@
 //! Logs, judged by the rules and by their deadlines.
 use crate::fixtures::{JobRow, TaskRow, plan_of, set_of};
 use std::alloc::Global;
+use std::process::Abort;
 use std::test::Fail;
-use yt_log::{Job, Log, Rule, first_broken, first_miss};
+use yt_log::{Job, Log, Miss, Rule, first_broken, first_miss};
 
 const A: Job = Job { task: 1, number: 1 };
 
@@ -18,8 +19,10 @@ const SHARING: [TaskRow; 3] = [(2, 5, 0), (1, 8, 1), (4, 40, 1)];
 /// Jobs of these, in the order in which they arrive: `B`, `A`, `K` and `A_2`.
 const JOBS: [JobRow; 4] = [(3, 1, 0, 4), (1, 1, 1, 2), (2, 1, 1, 1), (1, 2, 6, 2)];
 
-/// Logs of these jobs, the ticks that they have, and what they break first.
-const BROKEN: [(&[(u64, u64, Job)], u64, Option<(u64, Rule)>); 13] = [
+/// A log of these jobs, the ticks that it has, and what it breaks first.
+type BrokenRow = (&'static [(u64, u64, Job)], u64, Option<(u64, Rule)>);
+
+const BROKEN: &[BrokenRow] = &[
     (&[], 0, None),
     (&[], 3, Some((0, Rule::Idle))),
     (&[(0, 1, B)], 1, None),
@@ -55,8 +58,10 @@ const BROKEN: [(&[(u64, u64, Job)], u64, Option<(u64, Rule)>); 13] = [
     (&[(0, 1, B), (1, 2, A_2)], 2, Some((1, Rule::Unlawful))),
 ];
 
-/// Logs of these jobs, the ticks up to which they are judged, and the job that misses first.
-const MISSES: [(&[(u64, u64, Job)], u64, Option<Job>); 9] = [
+/// A log of these jobs, the ticks up to which it is judged, and the job that misses first.
+type MissRow = (&'static [(u64, u64, Job)], u64, Option<Job>);
+
+const MISSES: &[MissRow] = &[
     (&[], 5, None),
     (&[], 6, Some(A)),
     (&[(4, 6, A)], 8, None),
@@ -85,15 +90,15 @@ fn log_of(alloc: Global, runs: &[(u64, u64, Job)], until: u64) -> Result<Log, Fa
     Ok(log)
 }
 
-#[test]
-fn the_first_broken_rule_is_told(rt: HostRuntime) -> Result<(), Fail> {
+/// Checks what each log breaks first.
+fn judge_broken(rt: &(impl Abort + AllocGlobal), rows: &[BrokenRow]) -> Result<(), Fail> {
     let alloc = rt.alloc();
     let set = set_of(alloc, &SHARING)?;
     let plan = plan_of(alloc, &JOBS)?;
     if !plan.legal(&set) {
         return Err("no plan".into());
     }
-    for (runs, until, expected) in &BROKEN {
+    for (runs, until, expected) in rows {
         let log = log_of(alloc, runs, *until)?;
         let broken = match first_broken(&set, &plan, &log) {
             Some(broken) => Some((broken.tick, broken.rule)),
@@ -105,21 +110,32 @@ fn the_first_broken_rule_is_told(rt: HostRuntime) -> Result<(), Fail> {
 }
 
 #[test]
-fn the_first_miss_is_told(rt: HostRuntime) -> Result<(), Fail> {
+fn the_first_broken_rule_is_told(rt: HostRuntime) -> Result<(), Fail> {
+    judge_broken(&rt, BROKEN)
+}
+
+/// Checks which job misses first in each log.
+fn judge_misses(rt: &(impl Abort + AllocGlobal), rows: &[MissRow]) -> Result<(), Fail> {
     let alloc = rt.alloc();
     let set = set_of(alloc, &SHARING)?;
     let plan = plan_of(alloc, &JOBS)?;
     if !plan.legal(&set) {
         return Err("no plan".into());
     }
-    for (runs, upto, expected) in &MISSES {
+    for (runs, upto, expected) in rows {
         let log = log_of(alloc, runs, *upto)?;
         if log.until() < *upto {
             return Err("too short a log".into());
         }
-        assert_eq!(rt; first_miss(&set, &plan, &log, *upto), *expected);
+        let miss = first_miss(&set, &plan, &log, *upto);
+        assert_eq!(rt; miss.map(|miss| miss.job), *expected);
     }
     Ok(())
+}
+
+#[test]
+fn the_first_miss_is_told(rt: HostRuntime) -> Result<(), Fail> {
+    judge_misses(&rt, MISSES)
 }
 
 #[test]
@@ -132,6 +148,9 @@ fn of_equal_deadlines_the_first_task_misses(rt: HostRuntime) -> Result<(), Fail>
         return Err("no plan".into());
     }
     assert_eq!(rt; first_miss(&set, &plan, &log, 4), None);
-    assert_eq!(rt; first_miss(&set, &plan, &log, 5), Some(A));
+    assert_eq!(rt;
+        first_miss(&set, &plan, &log, 5),
+        Some(Miss { due: 5, job: A })
+    );
     Ok(())
 }

@@ -1,7 +1,7 @@
 //! Logs as they are told, and a segment's line.
 use std::test::Fail;
-use yt_base::Line;
-use yt_log::{Job, Log, Segment, put_segment};
+use yt_base::Text;
+use yt_log::{Job, Log, Segment, put_end, put_segment};
 
 const FIRST: Job = Job { task: 1, number: 1 };
 
@@ -89,13 +89,17 @@ fn tells_stretches(rt: HostRuntime) -> Result<(), Fail> {
 #[test]
 fn segments_are_put(rt: HostRuntime) -> Result<(), Fail> {
     let job = Job { task: 2, number: 7 };
-    let mut line = Line::new();
+    let mut text = Text::new(rt.alloc());
     let first = Segment {
         from: 0,
         to: 12,
         job,
     };
-    put_segment(&mut line, first, b"cam.frame");
-    assert_eq!(rt; line.bytes(), b"run 0 12 cam.frame 7".as_slice());
+    put_segment(&mut text, b"cam.frame", &first)?;
+    put_end(&mut text, 12)?;
+    assert_eq!(rt;
+        text.as_slice(),
+        b"run 0 12 cam.frame 7\nend 12\n".as_slice()
+    );
     Ok(())
 }

@@ -1,11 +1,14 @@
 //! Patterns of arrivals with which sets that don't fit miss.
 use crate::fixtures::{TaskRow, set_of};
+use std::process::Abort;
 use std::test::Fail;
 use yt_fits::fits;
 use yt_witness::{Pattern, arrive, witness};
 
 /// Two tasks that don't fit; their pattern; and the arrivals of each task in it, by first tick, step, count and cost.
-const PATTERNS: [([TaskRow; 2], Pattern, [(u64, u64, u128, u64); 2]); 3] = [
+type Row = ([TaskRow; 2], Pattern, [(u64, u64, u128, u64); 2]);
+
+const PATTERNS: [Row; 3] = [
     (
         [(5, 10, 0), (11, 20, 0)],
         Pattern::All { upto: 20 },
@@ -23,9 +26,9 @@ const PATTERNS: [([TaskRow; 2], Pattern, [(u64, u64, u128, u64); 2]); 3] = [
     ),
 ];
 
-#[test]
-fn a_set_that_does_not_fit_has_a_pattern(rt: HostRuntime) -> Result<(), Fail> {
-    for (tasks, expected, arrivals) in &PATTERNS {
+/// Checks the pattern of each set.
+fn judge(rt: &(impl Abort + AllocGlobal), rows: &[Row]) -> Result<(), Fail> {
+    for (tasks, expected, arrivals) in rows {
         let set = set_of(rt.alloc(), tasks)?;
         let why = match fits(&set) {
             Ok(_) => return Err("fits".into()),
@@ -46,4 +49,10 @@ fn a_set_that_does_not_fit_has_a_pattern(rt: HostRuntime) -> Result<(), Fail> {
         }
     }
     Ok(())
+}
+
+#[test]
+fn a_set_that_does_not_fit_has_a_pattern(rt: HostRuntime) -> Result<(), Fail> {
+    let rows = PATTERNS;
+    judge(&rt, rows.as_slice())
 }

@@ -1,9 +1,10 @@
 //! Plans that are legal or not, and their horizons.
 use crate::fixtures::{JobRow, plan_of, set_of};
+use std::process::Abort;
 use std::test::Fail;
 
 /// Jobs, and whether they are a legal plan.
-const PLANS: [(&[JobRow], bool); 14] = [
+const PLANS: &[(&[JobRow], bool)] = &[
     (&[], true),
     (&[(1, 1, 0, 5), (2, 1, 0, 3), (1, 2, 10, 1)], true),
     (&[(1, 1, 0, 5), (2, 1, 0, 3), (1, 2, 9, 1)], false),
@@ -20,15 +21,20 @@ const PLANS: [(&[JobRow], bool); 14] = [
     (&[(1, 1, 8_000_001, 1)], false),
 ];
 
-#[test]
-fn plans_are_legal_or_not(rt: HostRuntime) -> Result<(), Fail> {
+/// Checks whether each plan is legal.
+fn judge_plans(rt: &(impl Abort + AllocGlobal), rows: &[(&[JobRow], bool)]) -> Result<(), Fail> {
     let alloc = rt.alloc();
     let set = set_of(alloc, &[(5, 10, 0), (3, 20, 0)])?;
-    for (jobs, expected) in &PLANS {
+    for (jobs, expected) in rows {
         let plan = plan_of(alloc, jobs)?;
         assert_eq!(rt; plan.legal(&set), *expected);
     }
     Ok(())
+}
+
+#[test]
+fn plans_are_legal_or_not(rt: HostRuntime) -> Result<(), Fail> {
+    judge_plans(&rt, PLANS)
 }
 
 #[test]

@@ -17,14 +17,16 @@ use Rattle.yt_graph.specs.Cost.{greatest_sends, sent_on, one_if_same}
 use Rattle.yt_graph.specs.Meaning.{Handling, handling}
 use Rattle.yt_graph.specs.Picture.{GraphTree, PortTree}
 use Rattle.yt_graph.specs.WellFormed.{EndsWithin, IsFineOut, IsFinePort, IsWellFormed}
-use Rattle.yt_graph.proofs.Within.{sends_within}
+use Rattle.yt_graph.proofs.Lemmas.{sends_within}
 use Rattle.yt_log.specs.declared.job.Job.{Job}
 use Rattle.yt_log.specs.Plan.{jobs_of}
-use Rattle.yt_log.proofs.Appends.{jobs_none, jobs_push_same, jobs_push_other}
+use Rattle.yt_log.proofs.Lemmas.{jobs_none, jobs_push_same, jobs_push_other}
 use Rattle.yt_rates.specs.Rates.{every_of, period_of, gap_of}
 use Rattle.yt_serial.specs.declared.trace.Message.{Message}
-use Rattle.yt_serial.specs.PortMessages.{PortMessage, numbered, messages_of, spaced, passed}
-use Rattle.yt_serial.specs.SerialHandling.{Handled, Serial, messages_at, items_of, handled_of, from_outside, brought, placed, shown, all_shown, start, no_port, port_of, handle_message, message_of, serial_step, serial_run}
+use Rattle.yt_serial.specs.PortMessages.{PortMessage, messages_of, spaced, passed}
+use Rattle.yt_list.specs.Numbered.{numbered}
+use Rattle.yt_serial.specs.SerialHandling.{Handled, Serial, messages_at, items_of, handled_of, from_outside, brought, placed, shown, all_shown, start, port_of, handle_message, message_of, serial_step, serial_run}
+use Rattle.yt_graph.specs.Labels.{no_port}
 use Rattle.yt_serial.proofs.SerialInvariant.{Holds}
 use Rattle.yt_serial.proofs.SerialStates.{placed_at, BringsOf, brings, message_there}
 use Rattle.yt_serial.proofs.SerialRuns.{stepped, holds_stepped, serial_holds, inputs_stay}

@@ -3,7 +3,7 @@ use Rattle.std.proofs.Common.{◌≡◌, ℕ, zero, suc, ◌<◌, ◌≤◌, tru
 use Rattle.std.proofs.lemmas.Bool.{cases_Bool, cases_lt, cond-true, cond-false}
 use Rattle.yt_log.specs.declared.job.Job.{Job}
 use Rattle.yt_log.specs.Ticks.{Ticks, tick, done, first_tick}
-use Rattle.yt_log.proofs.Ticks.{done-zero, done_yes, done_step, done_grows, first-suc_zero, first-suc}
+use Rattle.yt_log.proofs.Lemmas.{done-zero, done_yes, done_step, done_grows, first-suc_zero, first-suc}
 use Rattle.yt_serial.specs.Beginnings.{newcomer, begun_below, busy_until}
 
 -- no job is done faster than time goes by

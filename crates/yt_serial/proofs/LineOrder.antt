@@ -1,9 +1,9 @@
 -- Lines in order are settled by the lines of each output.
 use Rattle.std.proofs.Common.{◌≡◌, ◌⊎◌, ℕ, ◌<◌, ◌≤◌, true, false, cond, eqb, ltb, ◌&&◌, List, [], ◌∷◌, refl, sym, ap, subst, ◌∙◌, inl, inr, ⊎_elim, arith, eq-eqb, ne_eqb, eqb-true, ltb-true, lt-ltb}
 use Rattle.std.proofs.lemmas.Bool.{cases_eq, cases_lt, cases_Bool, cond-true, cond-false, both_ways, or_cases, and_parts, or_left, or_right, and_from, false_from_ne_true}
-use Rattle.yt_log.specs.Order.{insert_by, sort_by}
+use Rattle.yt_order.specs.Sorting.{insert_by, sort_by}
 use Rattle.yt_log.specs.Tasks.{Has}
-use Rattle.yt_log.proofs.Members.{has_insert, has_sorted}
+use Rattle.yt_log.proofs.Lemmas.{has_insert, has_sorted}
 use Rattle.yt_serial.specs.declared.shown.OutLine.{OutLine}
 use Rattle.yt_serial.specs.Told.{line_before}
 use Rattle.yt_serial.specs.Lines.{lines_of, AreInLineOrder}

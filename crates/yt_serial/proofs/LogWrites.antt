@@ -8,11 +8,11 @@ use Rattle.yt_log.specs.declared.job.Job.{Job}
 use Rattle.yt_log.specs.Plan.{same_job}
 use Rattle.yt_log.specs.Tasks.{Has}
 use Rattle.yt_log.specs.Ticks.{Ticks, tick, done}
-use Rattle.yt_log.proofs.Jobs.{same_job_other, same_job_refl}
-use Rattle.yt_log.proofs.Ticks.{done_yes, done_no, done_grows}
+use Rattle.yt_log.proofs.Lemmas.{same_job_other, same_job_refl}
+use Rattle.yt_log.proofs.Lemmas.{done_yes, done_no, done_grows}
 use Rattle.yt_serial.specs.Laws.{VariablesStay}
 use Rattle.yt_serial.specs.SerialHandling.{Handled}
-use Rattle.yt_log.proofs.Made.{Agree, done_same}
+use Rattle.yt_log.proofs.Lemmas.{Agree, done_same}
 use Rattle.yt_serial.proofs.Prefix.{agree_append, done-append}
 use Rattle.yt_serial.specs.Variables.{after_writes, writes_at, writes_of, writes_in, writes_below}
 

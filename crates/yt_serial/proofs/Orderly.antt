@@ -3,14 +3,14 @@ use Rattle.std.proofs.Common.{◌≡◌, ℕ, ◌+◌, ◌≤◌, cond, eqb, Lis
 use Rattle.std.proofs.lemmas.Bool.{cond-true, cond-false}
 use Rattle.yt_set.specs.declared.task.Task.{Task}
 use Rattle.yt_log.specs.declared.plan.PlanItem.{PlanItem}
-use Rattle.yt_log.specs.Order.{sort_by}
+use Rattle.yt_order.specs.Sorting.{sort_by}
 use Rattle.yt_log.specs.Patterns.{item_before}
 use Rattle.yt_log.specs.Plan.{its_task, jobs_of, IsLegal}
 use Rattle.yt_log.specs.Tasks.{Has}
-use Rattle.yt_log.proofs.Appends.{has_push, jobs_none}
-use Rattle.yt_log.proofs.Inserts.{IsLegalFrom, legal_whole, legal_insert}
-use Rattle.yt_log.proofs.Members.{has_sorted}
-use Rattle.yt_log.proofs.Plans.{IsGood, jobs_of-cons}
+use Rattle.yt_log.proofs.Lemmas.{has_push, jobs_none}
+use Rattle.yt_log.proofs.Lemmas.{IsLegalFrom, legal_whole, legal_insert}
+use Rattle.yt_log.proofs.Lemmas.{has_sorted}
+use Rattle.yt_log.proofs.Lemmas.{IsGood, jobs_of-cons}
 
 -- the counts of jobs with one job more
 abbrev pub more : (ℕ → ℕ) → PlanItem → ℕ → ℕ

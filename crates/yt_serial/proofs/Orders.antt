@@ -5,8 +5,8 @@ use Rattle.std.proofs.lemmas.Option.{none-some, same_Some}
 use Rattle.yt_log.specs.declared.job.Job.{Job}
 use Rattle.yt_log.specs.Tasks.{Has}
 use Rattle.yt_log.specs.Ticks.{Ticks, tick, done}
-use Rattle.yt_log.proofs.Members.{has_append, has_left, has_right}
-use Rattle.yt_log.proofs.Ticks.{done-zero, done_yes, done_no, done_grows, tick_or_not}
+use Rattle.yt_log.proofs.Lemmas.{has_append, has_left, has_right}
+use Rattle.yt_log.proofs.Lemmas.{done-zero, done_yes, done_no, done_grows, tick_or_not}
 use Rattle.yt_serial.specs.Beginnings.{newcomer, begun_below}
 use Rattle.yt_serial.proofs.Done.{begun-suc}
 

@@ -3,7 +3,7 @@ use Rattle.std.proofs.Common.{◌≡◌, ℕ, zero, suc, ◌≤◌, cond, eqb, L
 use Rattle.std.proofs.lemmas.List.{get_or_append_left}
 use Rattle.yt_log.specs.declared.job.Job.{Job}
 use Rattle.yt_log.specs.Ticks.{Ticks, tick, done, first_tick}
-use Rattle.yt_log.proofs.Made.{Agree, agree_less, done_same, first_same}
+use Rattle.yt_log.proofs.Lemmas.{Agree, agree_less, done_same, first_same}
 use Rattle.yt_serial.specs.Beginnings.{newcomer, begun_below, busy_until}
 
 newcomer_same : (a b : Ticks) (t : ℕ) (o : Option Job) → Agree a b t → newcomer a t o ≡ newcomer b t o

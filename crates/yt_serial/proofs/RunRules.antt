@@ -9,12 +9,12 @@ use Rattle.yt_log.specs.declared.plan.PlanItem.{PlanItem}
 use Rattle.yt_log.specs.Plan.{deadline_of, IsLegal}
 use Rattle.yt_log.specs.Tasks.{Has}
 use Rattle.yt_log.specs.Ticks.{Ticks, done, first_tick, KeepsDeadlines}
-use Rattle.yt_log.proofs.Appends.{jobs_none}
-use Rattle.yt_log.proofs.Demands.{deadline_is}
-use Rattle.yt_log.proofs.Exclusions.{rule_is_safe}
-use Rattle.yt_log.proofs.Plans.{good_item}
-use Rattle.yt_log.proofs.Runs.{capped}
-use Rattle.yt_log.proofs.Ticks.{done_grows, first_is, first_stays}
+use Rattle.yt_log.proofs.Lemmas.{jobs_none}
+use Rattle.yt_log.proofs.Lemmas.{deadline_is}
+use Rattle.yt_log.proofs.Lemmas.{rule_is_safe}
+use Rattle.yt_log.proofs.Lemmas.{good_item}
+use Rattle.yt_log.proofs.Lemmas.{capped}
+use Rattle.yt_log.proofs.Lemmas.{done_grows, first_is, first_stays}
 use Rattle.yt_rates.specs.Rates.{period_of}
 use Rattle.yt_rates.specs.Tables.{tasks_of}
 use Rattle.yt_serial.specs.declared.shown.OutLine.{OutLine}
@@ -22,7 +22,7 @@ use Rattle.yt_serial.specs.declared.trace.Message.{Message}
 use Rattle.yt_serial.specs.Beginnings.{begun_below, order_of}
 use Rattle.yt_serial.specs.RunRules.{MeetsRunRules, RunRulesAreExact}
 use Rattle.yt_serial.specs.Premises.{IsSchedulable}
-use Rattle.yt_serial.specs.PortMessages.{numbered}
+use Rattle.yt_list.specs.Numbered.{numbered}
 use Rattle.yt_serial.specs.SerialHandling.{Serial, messages_at, items_of, handled_of, start, serial_step, serial_run, plan_of_log}
 use Rattle.yt_serial.specs.Told.{IsPromisedRun, NoneReplaced}
 use Rattle.yt_serial.proofs.Done.{begun_fresh}

@@ -12,22 +12,23 @@ use Rattle.yt_graph.specs.Cost.{greatest_cost, greatest_sends, sent_on}
 use Rattle.yt_graph.specs.Meaning.{Handling, handling}
 use Rattle.yt_graph.specs.Picture.{GraphTree, PortTree}
 use Rattle.yt_graph.specs.WellFormed.{IsWellFormed}
-use Rattle.yt_graph.proofs.Within.{ticks_within, sends_within}
+use Rattle.yt_graph.proofs.Lemmas.{ticks_within, sends_within}
 use Rattle.yt_log.specs.declared.job.Job.{Job}
 use Rattle.yt_log.specs.declared.plan.PlanItem.{PlanItem}
 use Rattle.yt_log.specs.Plan.{its_task, jobs_of}
 use Rattle.yt_log.specs.Tasks as numbers
 use Rattle.yt_log.specs.Tasks.{Has, no_task}
-use Rattle.yt_log.proofs.Appends.{has_push, jobs_push_same, jobs_push_other}
-use Rattle.yt_log.proofs.Demands.{task_of-suc}
+use Rattle.yt_log.proofs.Lemmas.{has_push, jobs_push_same, jobs_push_other}
+use Rattle.yt_log.proofs.Lemmas.{task_of-suc}
 use Rattle.yt_rates.specs.Faults.{IsWithinRates}
 use Rattle.yt_rates.specs.Rates.{every_of, period_of, gap_of}
 use Rattle.yt_rates.specs.Tables.{task_of, tasks_of}
-use Rattle.yt_rates.proofs.Chains.{source}
-use Rattle.yt_serial.specs.PortMessages.{PortMessage, numbered, spaced, passed}
+use Rattle.yt_rates.proofs.Lemmas.{source}
+use Rattle.yt_serial.specs.PortMessages.{PortMessage, spaced, passed}
+use Rattle.yt_list.specs.Numbered.{numbered}
 use Rattle.yt_serial.specs.SerialHandling.{Handled, Serial, messages_at, items_of, handled_of, brought, placed, all_shown}
 use Rattle.yt_serial.proofs.Orderly.{AreOrderly, none, orderly_push}
-use Rattle.yt_log.proofs.Multiples.{next_multiple}
+use Rattle.yt_log.proofs.Lemmas.{next_multiple}
 use Rattle.yt_serial.proofs.Sends.{spaced_within, spaced_spread}
 use Rattle.yt_serial.proofs.SerialStates.{placed_at, placed-length, port_there, BringsOf, brings}
 use Rattle.yt_serial.proofs.Spread.{get_cases, numbered_left, IsSpread, spread_behind, numbered_far, numbered_apart}

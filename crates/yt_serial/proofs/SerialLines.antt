@@ -11,13 +11,15 @@ use Rattle.yt_graph.specs.Picture.{GraphTree, PortTree}
 use Rattle.yt_graph.specs.WellFormed.{IsWellFormed}
 use Rattle.yt_log.specs.declared.job.Job.{Job}
 use Rattle.yt_log.specs.Tasks.{Has}
-use Rattle.yt_log.proofs.Members.{has_append}
+use Rattle.yt_log.proofs.Lemmas.{has_append}
 use Rattle.yt_rates.specs.Faults.{IsWithinRates}
 use Rattle.yt_rates.specs.Rates.{period_of, gap_of}
 use Rattle.yt_serial.specs.declared.shown.OutLine.{OutLine}
 use Rattle.yt_serial.specs.declared.trace.Message.{Message}
-use Rattle.yt_serial.specs.PortMessages.{PortMessage, numbered, spaced, passed}
-use Rattle.yt_serial.specs.SerialHandling.{Serial, messages_at, handled_of, start, brought, shown, all_shown, no_port, port_of, serial_step, serial_run}
+use Rattle.yt_serial.specs.PortMessages.{PortMessage, spaced, passed}
+use Rattle.yt_list.specs.Numbered.{numbered}
+use Rattle.yt_serial.specs.SerialHandling.{Serial, messages_at, handled_of, start, brought, shown, all_shown, port_of, serial_step, serial_run}
+use Rattle.yt_graph.specs.Labels.{no_port}
 use Rattle.yt_serial.specs.Traces.{KeepsPeriods}
 use Rattle.yt_serial.proofs.Sends.{spaced_within}
 use Rattle.yt_serial.proofs.SerialInvariant.{ComesOf, Holds, after, handled_grows, handled_same, message_stays, new_within, old_ends}

@@ -10,8 +10,10 @@ use Rattle.yt_graph.specs.declared.port.Feed.TheVariants.{Input, Out}
 use Rattle.yt_graph.specs.Picture.{GraphTree, PortTree}
 use Rattle.yt_log.specs.declared.job.Job.{Job}
 use Rattle.yt_rates.specs.Rates.{every_of, period_of, gap_of}
-use Rattle.yt_serial.specs.PortMessages.{PortMessage, numbered, spaced, passed}
-use Rattle.yt_serial.specs.SerialHandling.{Serial, messages_at, brought, placed, no_port, handled_of, message_of}
+use Rattle.yt_serial.specs.PortMessages.{PortMessage, spaced, passed}
+use Rattle.yt_list.specs.Numbered.{numbered}
+use Rattle.yt_serial.specs.SerialHandling.{Serial, messages_at, brought, placed, handled_of, message_of}
+use Rattle.yt_graph.specs.Labels.{no_port}
 
 -- what a port has, and behind it what its feed brings
 pub placed_at : (brings : Feed → List PortMessage) (ports : List PortTree) (messages : List (List PortMessage)) (k : ℕ) (p : PortTree)
@@ -41,7 +43,7 @@ port_there ports messages (suc k) n m long h =
     absurd (nothing n (subst (λ (ms : List PortMessage). numbered ms n ≡ Some m) e h)))
     (cases_lt k (length ports))
   where
-    nothing : (n : ℕ) → numbered {X = PortMessage} [] n ≡ Some m → ⊥
+    nothing : (n : ℕ) → numbered {A = PortMessage} [] n ≡ Some m → ⊥
     nothing zero h = none-some m h
     nothing (suc n) h = none-some m h
 

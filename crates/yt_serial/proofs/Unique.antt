@@ -7,18 +7,19 @@ use Rattle.yt_graph.specs.Picture.{GraphTree}
 use Rattle.yt_set.specs.declared.task.Task.{Task}
 use Rattle.yt_log.specs.declared.job.Job.{Job}
 use Rattle.yt_log.specs.declared.plan.PlanItem.{PlanItem}
-use Rattle.yt_log.specs.EdfDdm.{rank, least, waits, choice, IsEdfDdm, precedes}
-use Rattle.yt_log.specs.Order.{sort_by}
+use Rattle.yt_log.specs.EdfDdm.{rank, least, waits, choice, IsEdfDdm}
+use Rattle.yt_order.specs.Words.{precedes}
+use Rattle.yt_order.specs.Sorting.{sort_by}
 use Rattle.yt_log.specs.Plan.{its_task, deadline_of, IsLegal}
 use Rattle.yt_log.specs.Tasks.{Has}
 use Rattle.yt_log.specs.Ticks.{Ticks, tick, done, IsWaiting, KeepsDeadlines}
-use Rattle.yt_log.proofs.Appends.{jobs_none}
-use Rattle.yt_log.proofs.Choices.{IsLeast, least_is, waits_true, waits_from}
-use Rattle.yt_log.proofs.Demands.{deadline_is}
-use Rattle.yt_log.proofs.Leasts.{rule_is_least}
-use Rattle.yt_log.proofs.Made.{choice_same, Agree, done_same}
-use Rattle.yt_log.proofs.Plans.{one_item, good_item}
-use Rattle.yt_log.proofs.Ticks.{done_grows}
+use Rattle.yt_log.proofs.Lemmas.{jobs_none}
+use Rattle.yt_log.proofs.Lemmas.{IsLeast, least_is, waits_true, waits_from}
+use Rattle.yt_log.proofs.Lemmas.{deadline_is}
+use Rattle.yt_log.proofs.Lemmas.{rule_is_least}
+use Rattle.yt_log.proofs.Lemmas.{choice_same, Agree, done_same}
+use Rattle.yt_log.proofs.Lemmas.{one_item, good_item}
+use Rattle.yt_log.proofs.Lemmas.{done_grows}
 use Rattle.yt_rates.specs.Rates.{period_of}
 use Rattle.yt_rates.specs.Tables.{tasks_of}
 use Rattle.yt_rates.specs.Tables as tables
@@ -26,7 +27,8 @@ use Rattle.yt_serial.specs.declared.shown.OutLine.{OutLine}
 use Rattle.yt_serial.specs.declared.trace.Message.{Message}
 use Rattle.yt_serial.specs.Beginnings.{begun_below, nth_job, order_of}
 use Rattle.yt_serial.specs.Premises.{CanRun}
-use Rattle.yt_serial.specs.PortMessages.{PortMessage, numbered}
+use Rattle.yt_serial.specs.PortMessages.{PortMessage}
+use Rattle.yt_list.specs.Numbered.{numbered}
 use Rattle.yt_serial.specs.SerialHandling.{Serial, messages_at, items_of, start, serial_step, serial_run, plan_of_log}
 use Rattle.yt_serial.specs.Told.{line_before, latest, AllHandled, IsPromisedRun}
 use Rattle.yt_serial.proofs.Done.{busy_until_le}
@@ -37,7 +39,7 @@ use Rattle.yt_serial.proofs.SerialRuns.{serial_holds, stepped}
 use Rattle.yt_serial.proofs.SerialStates.{message_there, port_there}
 use Rattle.yt_serial.proofs.SerialSteps.{AtTick, IsBrought, at_tick, from_start, in_items, in_plan}
 use Rattle.yt_serial.proofs.Spread.{numbered_within}
-use Rattle.yt_log.proofs.Costs.{rank_like}
+use Rattle.yt_log.proofs.Lemmas.{rank_like}
 
 module _ (g : GraphTree) (trace : List Message) (can : CanRun g trace) where
   -- an item of the same job and arrival that waits

@@ -9,7 +9,8 @@ use Rattle.yt_graph.specs.Picture.{GraphTree, PortTree}
 use Rattle.yt_log.specs.declared.job.Job.{Job}
 use Rattle.yt_rates.specs.Rates.{every_of}
 use Rattle.yt_serial.specs.declared.trace.Message.{Message}
-use Rattle.yt_serial.specs.PortMessages.{numbered, messages_of}
+use Rattle.yt_serial.specs.PortMessages.{messages_of}
+use Rattle.yt_list.specs.Numbered.{numbered}
 use Rattle.yt_serial.specs.SerialHandling.{Serial, messages_at, handled_of}
 use Rattle.yt_serial.specs.Premises.{IsHandling}
 use Rattle.yt_serial.specs.Lines.{lines_of}

@@ -1,3 +1,4 @@
+pub mod Limits
 pub mod PortMessages
 pub mod Traces
 pub mod Beginnings

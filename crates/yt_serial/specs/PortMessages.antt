@@ -1,5 +1,5 @@
 -- Messages at ports: which come from outside, and which a job passes on.
-use Rattle.std.specs.Prelude.{ℕ, zero, suc, ◌+◌, ◌%◌, ◌==◌, ◌≤◌, ℤ, List, [], ◌∷◌, Option, None, slice_get, AllPairs, if◌then◌else◌}
+use Rattle.std.specs.Prelude.{ℕ, ◌+◌, ◌%◌, ◌==◌, ◌≤◌, ℤ, List, [], ◌∷◌, AllPairs, if◌then◌else◌}
 use Rattle.yt_graph.specs.declared.handled.SendItem.{SendItem}
 use Rattle.yt_graph.specs.Picture.{GraphTree, PortTree}
 use Rattle.yt_rates.specs.Rates.{every_of, period_of, gap_of}
@@ -9,11 +9,6 @@ use Rattle.yt_serial.specs.declared.trace.Message.{Message}
 pub record PortMessage : Type 0 where
   pub time : ℕ
   pub values : List ℤ
-
--- the element of a number, from 1
-abbrev pub numbered : {X : Type 0} → List X → ℕ → Option X
-numbered xs zero = None
-numbered xs (suc n) = slice_get xs n
 
 -- each message comes at least a period after each one before it
 abbrev pub AreApart : ℕ → List PortMessage → Type 0

@@ -6,17 +6,19 @@ use Rattle.yt_graph.specs.declared.handled.Write.{Write}
 use Rattle.yt_graph.specs.declared.port.Feed as feed
 use Rattle.yt_graph.specs.declared.port.Feed.{Feed}
 use Rattle.yt_graph.specs.Meaning.{handling}
-use Rattle.yt_graph.specs.Picture.{GraphTree, PortTree, empty}
+use Rattle.yt_graph.specs.Picture.{GraphTree, PortTree}
+use Rattle.yt_graph.specs.Labels.{no_port}
 use Rattle.yt_log.specs.declared.job.Job.{Job}
 use Rattle.yt_log.specs.declared.plan.PlanItem.{PlanItem}
-use Rattle.yt_log.specs.Order.{sort_by}
+use Rattle.yt_order.specs.Sorting.{sort_by}
 use Rattle.yt_log.specs.Patterns.{item_before}
 use Rattle.yt_log.specs.Plan.{jobs_of}
 use Rattle.yt_log.specs.Ticks.{Ticks}
 use Rattle.yt_serial.specs.declared.shown.OutLine.{OutLine}
 use Rattle.yt_serial.specs.declared.trace.Message.{Message}
 use Rattle.yt_serial.specs.Beginnings.{order_of}
-use Rattle.yt_serial.specs.PortMessages.{PortMessage, numbered, messages_of, passed}
+use Rattle.yt_serial.specs.PortMessages.{PortMessage, messages_of, passed}
+use Rattle.yt_list.specs.Numbered.{numbered}
 
 -- a message that was handled: the item of its job, whose cost is the ticks that it took, and the writes of variables
 pub record Handled : Type 0 where
@@ -76,10 +78,6 @@ shown output messages = map (λ (m : PortMessage). record { time = m.time; outpu
 abbrev pub all_shown : ℕ → (ℕ → List PortMessage) → ℕ → List Output → List OutLine
 all_shown task passes n [] = []
 all_shown task passes n (o ∷ outputs) = (if o.port == task then shown n (passes o.out) else []) ++ all_shown task passes (suc n) outputs
-
--- what stands for a port where there is none
-abbrev pub no_port : PortTree
-no_port = record { process = []; name = []; feed = feed.TheVariants.Input 0; group = 0; params = 0; locals = 0; outs = []; body = empty }
 
 -- the port of a job
 abbrev pub port_of : GraphTree → Job → PortTree

@@ -3,7 +3,7 @@ use Rattle.std.specs.Prelude.{◌≡◌, ℕ, ◌+◌, ◌<◌, ◌≤◌, ◌==
 use Rattle.yt_graph.specs.Picture.{GraphTree}
 use Rattle.yt_log.specs.declared.plan.PlanItem.{PlanItem}
 use Rattle.yt_log.specs.EdfDdm.{IsEdfDdm}
-use Rattle.yt_log.specs.Order.{sort_by}
+use Rattle.yt_order.specs.Sorting.{sort_by}
 use Rattle.yt_log.specs.Plan.{IsLegal}
 use Rattle.yt_log.specs.Tasks.{Has}
 use Rattle.yt_log.specs.Ticks.{Ticks, done, first_tick, IsLawful, IsWorkConserving, IsExclusive, KeepsDeadlines}

@@ -1,4 +1,4 @@
-pub mod Hyperperiods
-pub mod Multiples
-pub mod NamedLemmas
-pub mod SeenLemmas
+pub mod Lemmas
+mod Hyperperiods
+mod Multiples
+mod NamedLemmas

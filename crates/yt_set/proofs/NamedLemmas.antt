@@ -6,10 +6,11 @@ use Rattle.std.proofs.lemmas.List.Sums.{prefix_len-le-length}
 use Rattle.std.specs.List.{All, position_or_len}
 use Rattle.yt_set.specs.declared.task.Task.{Task}
 use Rattle.yt_set.specs.NamedTasks.{NamedTasks, IsNamed, HasNameLength}
-use Rattle.yt_set.specs.SetText.{in_range, is_among, is_name, is_group, number_of, with_group, with_task}
+use Rattle.yt_table.specs.Tables.{is_among}
+use Rattle.yt_table.proofs.Lemmas.{position_less}
+use Rattle.yt_set.specs.SetText.{in_range, is_name, is_group, number_of, with_group, with_task}
 use Rattle.yt_set.specs.Tasks.{IsTask}
 use Rattle.yt_set.proofs.Hyperperiods.{all_one}
-use Rattle.yt_set.proofs.SeenLemmas.{position_less}
 
 -- the three parts fix a named set
 pub same_named : {a b : List Task} {c d e f : List (List ℕ)} → a ≡ b → c ≡ d → e ≡ f

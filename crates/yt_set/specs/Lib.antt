@@ -1,4 +1,5 @@
 pub mod Hyperperiod
+pub mod Limits
 pub mod NamedTasks
 pub mod Printed
 pub mod Reading

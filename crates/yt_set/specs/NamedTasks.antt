@@ -2,6 +2,7 @@
 use Rattle.std.specs.Prelude.{◌≡◌, ℕ, ◌≤◌, List, length}
 use Rattle.std.specs.List.{All}
 use Rattle.yt_set.specs.declared.task.Task.{Task}
+use Rattle.yt_set.specs.Limits.{most_name_bytes}
 use Rattle.yt_set.specs.Tasks.{IsTaskSet}
 
 -- tasks in order, the name of each, and the names of their resources by number
@@ -10,9 +11,9 @@ pub record NamedTasks : Type 0 where
   pub labels : List (List ℕ)
   pub groups : List (List ℕ)
 
--- it has as many bytes as a name: from 1 to 65
+-- it has as many bytes as a name
 abbrev pub HasNameLength : List ℕ → Type 0
-HasNameLength text = (1 ≤ length text) × (length text ≤ 65)
+HasNameLength text = (1 ≤ length text) × (length text ≤ most_name_bytes)
 
 -- the tasks are a set, each has a name, as has each resource that one of them is under, and there are no more resources than tasks
 pub record IsNamed (set : NamedTasks) : Type 0 where

@@ -2,6 +2,8 @@
 use Rattle.std.specs.Prelude.{◌≡◌, ℕ, ◌+◌, ◌==◌, ◌&&◌, ◌||◌, not, nat_lt, nat_le, Bool, List, [], ◌∷◌, ◌++◌, length, bytes_eq, codes, if◌then◌else◌, Option, None, Some, Result, Ok, Err}
 use Rattle.std.specs.List.{list_all, list_any, position_or_len}
 use Rattle.yt_base.specs.Digits.{is_digits, value_of}
+use Rattle.yt_table.specs.Tables.{is_among}
+use Rattle.yt_set.specs.Limits.{most_name_bytes, most_tasks, most_ticks}
 use Rattle.yt_set.specs.declared.read.LineFault.{LineFault}
 use Rattle.yt_set.specs.declared.read.LineFault.TheVariants.{Form, Name, Twice, Cost, Period, Many}
 use Rattle.yt_set.specs.declared.read.SetFault.{SetFault}
@@ -30,20 +32,17 @@ task_texts _ = None
 abbrev pub is_name_byte : ℕ → Bool
 is_name_byte c = (nat_le 65 c && nat_le c 90) || ((nat_le 97 c && nat_le c 122) || ((nat_le 48 c && nat_le c 57) || ((c == 95) || (c == 46))))
 
--- a name of a task or a resource: 1 to 65 such bytes
+-- a name of a task or a resource: such bytes, one at least
 abbrev pub is_name : List ℕ → Bool
-is_name text = nat_lt 0 (length text) && (nat_le (length text) 65 && list_all is_name_byte text)
+is_name text = nat_lt 0 (length text) && (nat_le (length text) most_name_bytes && list_all is_name_byte text)
 
 -- a name, or none
 abbrev pub is_group : List ℕ → Bool
 is_group text = (length text == 0) || is_name text
 
-abbrev pub is_among : List ℕ → List (List ℕ) → Bool
-is_among name names = list_any (bytes_eq name) names
-
--- from 1 to 1,000,000 ticks
+-- a cost or a period within the limits
 abbrev pub in_range : ℕ → Bool
-in_range ticks = nat_le 1 ticks && nat_le ticks 1000000
+in_range ticks = nat_le 1 ticks && nat_le ticks most_ticks
 
 -- the names of resources with one more; it goes last where it is new, and an empty one is none
 abbrev pub with_group : List (List ℕ) → List ℕ → List (List ℕ)
@@ -70,7 +69,7 @@ judged_texts read (Some texts) =
     else (if is_among texts.name read.labels then Err Twice
     else (if not (in_range (value_of texts.cost)) then Err Cost
     else (if not (in_range (value_of texts.period)) then Err Period
-    else (if length read.tasks == 64 then Err Many
+    else (if length read.tasks == most_tasks then Err Many
     else Ok (with_task read texts.name (value_of texts.cost) (value_of texts.period) texts.group))))))
 
 abbrev pub judged : NamedTasks → List (List ℕ) → Result NamedTasks LineFault

@@ -1,15 +1,16 @@
 -- Task sets: what their tasks ask of the processor, and when they fit.
-use Rattle.std.specs.Prelude.{◌≡◌, ℕ, ◌+◌, ◌-◌, ◌*◌, ◌/◌, ◌%◌, ◌<◌, ◌≤◌, ◌==◌, min, zero, suc, List, [], ◌∷◌, length, map, if◌then◌else◌, Option, Some, None}
+use Rattle.std.specs.Prelude.{◌≡◌, ℕ, ◌+◌, ◌-◌, ◌*◌, ◌/◌, ◌%◌, ◌<◌, ◌≤◌, ◌==◌, min, zero, suc, List, [], ◌∷◌, length, map, if◌then◌else◌, Option, Some, None, IsSomeAnd}
 use Rattle.std.specs.List.{All, filter, reduce, sum_by}
 use Rattle.yt_set.specs.declared.task.Task.{Task}
+use Rattle.yt_set.specs.Limits.{most_tasks, most_ticks}
 
--- a task whose cost and whose period are from 1 to 1,000,000 ticks
+-- a task whose cost and whose period are within the limits
 abbrev pub IsTask : Task → Type 0
-IsTask task = (1 ≤ task.cost) × (task.cost ≤ 1000000) × (1 ≤ task.period) × (task.period ≤ 1000000)
+IsTask task = (1 ≤ task.cost) × (task.cost ≤ most_ticks) × (1 ≤ task.period) × (task.period ≤ most_ticks)
 
--- at most 64 tasks
+-- such tasks, no more than a set has at most
 abbrev pub IsTaskSet : List Task → Type 0
-IsTaskSet tasks = (length tasks ≤ 64) × All IsTask tasks
+IsTaskSet tasks = (length tasks ≤ most_tasks) × All IsTask tasks
 
 -- how many ticks after its arrival a job is due: at the end of its period
 abbrev pub within : Task → ℕ
@@ -19,7 +20,7 @@ within task = task.period
 abbrev pub users_of : List Task → ℕ → List Task
 users_of tasks resource = filter (λ task. task.resource == resource) tasks
 
--- the floor of a resource: within how many ticks the most urgent of its users is due; none where it has no users, and of resource 0, which is none
+-- the deadline floor of a resource: within how many ticks the most urgent of its users is due; none where it has no users, and of resource 0, which is none
 abbrev pub floor_of : List Task → ℕ → Option ℕ
 floor_of tasks resource = if resource == 0 then None else reduce min (map within (users_of tasks resource))
 
@@ -57,9 +58,17 @@ load tasks h = sum_by (λ task. task.cost * (h / task.period)) tasks
 abbrev pub FitsLoad : List Task → Type 0
 FitsLoad tasks = load tasks (hyperperiod tasks) ≤ hyperperiod tasks
 
+-- the ticks that a job of the task and the jobs that can arrive after its first tick and be due in a span ask for in it
+abbrev pub need_of : List Task → Task → ℕ → ℕ
+need_of tasks task span = task.cost + demand_bound tasks (span - 1)
+
+-- a span that is longer than the deadline floor of the task's resource, and ends before its job is due, has fewer ticks than are asked for
+abbrev pub LacksRoom : List Task → ℕ → Task → Type 0
+LacksRoom tasks span task = IsSomeAnd (floor_of tasks task.resource) (λ floor. floor < span) × (span < within task) × (span < need_of tasks task span)
+
 -- a job of this task, which keeps its resource from its first tick on, leaves room in each span for what can arrive after that tick and be due in the span
 abbrev pub LeavesRoom : List Task → Task → Type 0
-LeavesRoom tasks task = (floor span : ℕ) → floor_of tasks task.resource ≡ Some floor → floor < span → span < within task → task.cost + demand_bound tasks (span - 1) ≤ span
+LeavesRoom tasks task = (span : ℕ) → LacksRoom tasks span task → ⊥
 
 -- each task under a resource leaves room for the others
 abbrev pub FitsInterval : List Task → Type 0

@@ -2,10 +2,11 @@
 ghost use Rattle.std.specs.Prelude.{◌≡◌, ◌-◌, ◌<◌, ◌≤◌, length, slice_get, Some};
 ghost use Rattle.std.specs.List.{All};
 ghost use Rattle.yt_set.specs.NamedTasks.{HasNameLength, IsNamed};
+ghost use Rattle.yt_set.specs.Tasks.{IsTaskSet};
 
 use crate::set::TaskSet;
 use std::marker::Model;
-use yt_list::Names;
+use yt_list::{Name, Names};
 
 /// A set with the name of each task, and of each resource that a task is under. A contract sees the tasks and both lists of
 /// names.
@@ -49,6 +50,24 @@ impl NamedSet {
         ensures groups { All HasNameLength self.now.groups }
     {
         &self.tasks
+    }
+
+    /// The names of the tasks in order, as a slice to go over. The name of the task of number 1 stands at place 0.
+    pub fn labels(&self) -> &[Name]
+        ensures labels { result.now ≡ self.now.labels }
+        ensures labelled { length result.now ≡ length self.now.tasks }
+        ensures in_range { IsTaskSet self.now.tasks }
+        ensures lengths { All HasNameLength result.now }
+    {
+        self.labels.as_slice()
+    }
+
+    /// The names of the resources in order, as a slice to go over. The name of the resource of number 1 stands at place 0.
+    pub fn groups(&self) -> &[Name]
+        ensures groups { result.now ≡ self.now.groups }
+        ensures lengths { All HasNameLength result.now }
+    {
+        self.groups.as_slice()
     }
 
     /// The name of a task by its number from 1. The caller shows that it is in the set.

@@ -1,5 +1,6 @@
 //! Puts a task's line.
 ghost use Rattle.std.specs.Prelude.{◌≡◌, ◌≤◌, ◌↔◌, [], length};
+ghost use Rattle.yt_set.specs.Limits.{most_name_bytes};
 ghost use Rattle.yt_set.specs.Printed.{task_line};
 
 use crate::task::Task;
@@ -10,8 +11,8 @@ use yt_base::Line;
 /// is none.
 pub fn put_task(line: &mut Line, label: &[u8], task: Task, group: &[u8])
     requires empty { line.old ≡ [] }
-    requires label { length label.now ≤ 65 }
-    requires group { length group.now ≤ 65 }
+    requires label { length label.now ≤ most_name_bytes }
+    requires group { length group.now ≤ most_name_bytes }
     requires none { (group.now ≡ []) ↔ (task.resource ≡ 0) }
     ensures { line.new ≡ task_line label.now task group.now }
 {

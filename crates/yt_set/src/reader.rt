@@ -2,25 +2,27 @@
 ghost use Rattle.std.specs.Prelude.{◌≡◌, ◌<◌, ◌≤◌, length, IfOk, MatchResult, Ok, Err, OnOk, IsTrue, false};
 ghost use Rattle.yt_base.specs.Lines.{fields_of};
 ghost use Rattle.yt_base.specs.Files.{after_line};
+ghost use Rattle.yt_table.specs.Tables.{is_among};
+ghost use Rattle.yt_set.specs.Limits.{most_tasks};
 ghost use Rattle.yt_set.specs.Reading.{IsFaultAt, with_new};
-ghost use Rattle.yt_set.specs.SetText.{in_range, is_among, is_group, is_name, judged, no_tasks, number_of, with_group};
+ghost use Rattle.yt_set.specs.SetText.{in_range, is_group, is_name, judged, no_tasks, number_of, with_group};
 
 use crate::named::NamedSet;
 use crate::read::{LineFault, SetFault};
-use crate::seen::Seen;
 use crate::set::{MOST_TASKS, TaskSet};
 use crate::task::Task;
 use crate::task_line::{NewTask, TaskLine, ticks};
 use std::alloc::{AllocError, Global};
 use std::marker::Model;
 use yt_base::is_skipped;
+use yt_table::NameSet;
 
 /// What the lines so far say. A contract sees the tasks, their names, and the names of resources in order of first use.
 #[derive(Drop)]
 pub(crate) struct Reader<'a> {
     tasks: Vec<Task>,
-    labels: Seen<'a>,
-    groups: Seen<'a>,
+    labels: NameSet<'a>,
+    groups: NameSet<'a>,
 }
 
 impl<'a> Model for Reader<'a> {
@@ -40,8 +42,8 @@ impl<'a> Reader<'a> {
     {
         Reader {
             tasks: Vec::new(alloc),
-            labels: Seen::new(alloc),
-            groups: Seen::new(alloc),
+            labels: NameSet::new(alloc),
+            groups: NameSet::new(alloc),
         }
     }
 
@@ -70,7 +72,7 @@ impl<'a> Reader<'a> {
         ensures name { IfOk result (λ task. IsTrue (is_name task.name.now)) }
         ensures group { IfOk result (λ task. IsTrue (is_group task.group.now)) }
         ensures other { IfOk result (λ task. is_among task.name.now self.now.labels ≡ false) }
-        ensures room { IfOk result (λ task. length self.now.tasks < 64) }
+        ensures room { IfOk result (λ task. length self.now.tasks < most_tasks) }
     {
         let Some(texts) = TaskLine::new(line) else {
             return Err(LineFault::Form);
@@ -107,7 +109,7 @@ impl<'a> Reader<'a> {
         requires name { IsTrue (is_name task.name.now) }
         requires group { IsTrue (is_group task.group.now) }
         requires other { is_among task.name.now self.labels ≡ false }
-        requires room { length self.tasks < 64 }
+        requires room { length self.tasks < most_tasks }
         ensures { IfOk result (λ read. read ≡ with_new self.entry task.entry) }
     {
         let Reader {
@@ -116,7 +118,7 @@ impl<'a> Reader<'a> {
             mut groups,
         } = self;
         let resource = number_of(&mut groups, task.group)?;
-        labels.see(task.name)?;
+        labels.insert(task.name)?;
         tasks.push(Task {
             cost: task.cost,
             period: task.period,
@@ -140,14 +142,14 @@ impl<'a> Reader<'a> {
 }
 
 /// The number of a resource by its name, from 1 in order of first use; 0 where the name is empty.
-fn number_of<'a>(groups: &mut Seen<'a>, group: &'a [u8]) -> Result<u32, AllocError>
-    requires { length groups.old < 64 }
+fn number_of<'a>(groups: &mut NameSet<'a>, group: &'a [u8]) -> Result<u32, AllocError>
+    requires { length groups.old < most_tasks }
     ensures number { IfOk result (λ number. number ≡ number_of groups.old group.now) }
     ensures groups { OnOk result (groups.new ≡ with_group groups.old group.now) }
 {
     if group.is_empty() {
         return Ok(0);
     }
-    let place = groups.see(group)?;
-    Ok(place as u32 + 1)
+    let seen = groups.insert_full(group)?;
+    Ok(seen.0 as u32 + 1)
 }

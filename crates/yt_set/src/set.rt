@@ -3,12 +3,13 @@ ghost use Rattle.std.specs.Prelude.{◌≡◌, ◌↔◌, ◌-◌, ◌≤◌, le
 ghost use Rattle.std.specs.List.{All, reduce};
 ghost use Rattle.yt_set.specs.Tasks.{IsTask, IsTaskSet, floor_of, users_of, within};
 ghost use Rattle.yt_set.specs.SetText.{in_range};
+ghost use Rattle.yt_set.specs.Limits.{most_tasks};
 
 use crate::task::Task;
 use std::marker::Model;
 
 /// How many tasks a set has at most.
-pub(crate) const MOST_TASKS: usize = 64;
+pub const MOST_TASKS: usize = 64;
 
 /// The greatest cost and the greatest period of a task, in ticks.
 const MOST_TICKS: u64 = 1_000_000;
@@ -47,8 +48,8 @@ impl TaskSet {
         }
     }
 
-    /// The set of tasks that the caller shows to be in range.
-    pub(crate) fn of(tasks: Vec<Task>) -> Self
+    /// The set of tasks that the caller shows to be in range, with no memory.
+    pub fn of(tasks: Vec<Task>) -> Self
         requires { IsTaskSet tasks.items }
         ensures { result ≡ tasks.items }
     {
@@ -58,7 +59,7 @@ impl TaskSet {
     /// How many tasks there are. Whatever the set, it is in range.
     pub fn len(&self) -> u32
         ensures len { result ≡ length self.now }
-        ensures few { result ≤ 64 }
+        ensures few { result ≤ most_tasks }
         ensures in_range { IsTaskSet self.now }
     {
         self.tasks.len() as u32

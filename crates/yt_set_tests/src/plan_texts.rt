@@ -1,12 +1,13 @@
 //! Texts of plans.
 use std::alloc::Global;
+use std::process::Abort;
 use std::test::Fail;
 use yt_base::Line;
 use yt_log::{Job, PlanFault, PlanItem, read_plan};
 use yt_set::{NamedSet, SetFault, read_set};
 
 /// Texts of plans of the tasks `A 5 10` and `B 3 20`, and their faults.
-const TEXTS: [(&str, Option<PlanFault>); 22] = [
+const TEXTS: &[(&str, Option<PlanFault>)] = &[
     ("", None),
     ("# c\n\n 0\tA  5 \r\n", None),
     ("0 A", Some(PlanFault::Form(1))),
@@ -55,11 +56,14 @@ fn fault(alloc: Global, set: &NamedSet, text: &[u8]) -> Result<Option<PlanFault>
     }
 }
 
-#[test]
-fn the_first_fault_is_told(rt: HostRuntime) -> Result<(), Fail> {
+/// Checks the first fault of each text.
+fn judge_texts(
+    rt: &(impl Abort + AllocGlobal),
+    rows: &[(&str, Option<PlanFault>)],
+) -> Result<(), Fail> {
     let alloc = rt.alloc();
     let set = named_set(alloc, b"task A 5 10\ntask B 3 20")?;
-    for (text, expected) in &TEXTS {
+    for (text, expected) in rows {
         assert_eq!(rt;
             fault(alloc, &set, text.as_bytes())?,
             *expected,
@@ -67,6 +71,11 @@ fn the_first_fault_is_told(rt: HostRuntime) -> Result<(), Fail> {
         );
     }
     Ok(())
+}
+
+#[test]
+fn the_first_fault_is_told(rt: HostRuntime) -> Result<(), Fail> {
+    judge_texts(&rt, TEXTS)
 }
 
 #[test]

@@ -1,5 +1,6 @@
 //! Texts of sets, sets in range, and what a set tells.
 use std::alloc::Global;
+use std::process::Abort;
 use std::test::Fail;
 use yt_base::Line;
 use yt_set::{LineFault, SetFault, Task, TaskSet, put_task, read_set};
@@ -16,44 +17,55 @@ fn fault(alloc: Global, text: &[u8]) -> Result<Option<(u32, LineFault)>, Fail> {
     }
 }
 
-#[test]
-fn the_first_fault_is_told(rt: HostRuntime) -> Result<(), Fail> {
-    for (text, expected) in [
-        ("", None),
-        ("\n\r\n \t\n# x\n  #x y", None),
-        ("task A 5 10", None),
-        ("task A 5 10\r", None),
-        ("task A 5 10\r\r", Some((1, LineFault::Form))),
-        ("\ttask  A\t5 10 r \n", None),
-        ("task A 5", Some((1, LineFault::Form))),
-        ("task A 5 10 r s", Some((1, LineFault::Form))),
-        ("task A 5 10 # c", Some((1, LineFault::Form))),
-        ("Task A 5 10", Some((1, LineFault::Form))),
-        ("tasks A 5 10", Some((1, LineFault::Form))),
-        ("task A -5 10", Some((1, LineFault::Form))),
-        ("\n# c\ntask A 5 1x\ntask", Some((3, LineFault::Form))),
-        ("task A! 5 x", Some((1, LineFault::Form))),
-        ("task A! 0 10", Some((1, LineFault::Name))),
-        ("task A 5 10 r-", Some((1, LineFault::Name))),
-        ("task 0.a_Z 5 10 9", None),
-        ("task A 1 10\ntask A! 1 10", Some((2, LineFault::Name))),
-        ("task A 1 10\ntask A 0 10", Some((2, LineFault::Twice))),
-        ("task A 1 10\ntask a 1 10 A", None),
-        ("task A 0 0", Some((1, LineFault::Cost))),
-        ("task A 1 0", Some((1, LineFault::Period))),
-        ("task A 1000000 1000000", None),
-        ("task A 1000001 1", Some((1, LineFault::Cost))),
-        ("task A 1 1000001", Some((1, LineFault::Period))),
-        ("task A 18446744073709551617 1", Some((1, LineFault::Cost))),
-        (
-            "task A 1 18446744073709551617",
-            Some((1, LineFault::Period)),
-        ),
-        ("task A 000000000000000000000001 01", None),
-    ] {
-        assert_eq!(rt; fault(rt.alloc(), text.as_bytes())?, expected, "at {text}");
+/// Texts, and the line and kind of their first fault; `None` where they say a set.
+const TEXTS: &[(&str, Option<(u32, LineFault)>)] = &[
+    ("", None),
+    ("\n\r\n \t\n# x\n  #x y", None),
+    ("task A 5 10", None),
+    ("task A 5 10\r", None),
+    ("task A 5 10\r\r", Some((1, LineFault::Form))),
+    ("\ttask  A\t5 10 r \n", None),
+    ("task A 5", Some((1, LineFault::Form))),
+    ("task A 5 10 r s", Some((1, LineFault::Form))),
+    ("task A 5 10 # c", Some((1, LineFault::Form))),
+    ("Task A 5 10", Some((1, LineFault::Form))),
+    ("tasks A 5 10", Some((1, LineFault::Form))),
+    ("task A -5 10", Some((1, LineFault::Form))),
+    ("\n# c\ntask A 5 1x\ntask", Some((3, LineFault::Form))),
+    ("task A! 5 x", Some((1, LineFault::Form))),
+    ("task A! 0 10", Some((1, LineFault::Name))),
+    ("task A 5 10 r-", Some((1, LineFault::Name))),
+    ("task 0.a_Z 5 10 9", None),
+    ("task A 1 10\ntask A! 1 10", Some((2, LineFault::Name))),
+    ("task A 1 10\ntask A 0 10", Some((2, LineFault::Twice))),
+    ("task A 1 10\ntask a 1 10 A", None),
+    ("task A 0 0", Some((1, LineFault::Cost))),
+    ("task A 1 0", Some((1, LineFault::Period))),
+    ("task A 1000000 1000000", None),
+    ("task A 1000001 1", Some((1, LineFault::Cost))),
+    ("task A 1 1000001", Some((1, LineFault::Period))),
+    ("task A 18446744073709551617 1", Some((1, LineFault::Cost))),
+    (
+        "task A 1 18446744073709551617",
+        Some((1, LineFault::Period)),
+    ),
+    ("task A 000000000000000000000001 01", None),
+];
+
+/// Checks the first fault of each text.
+fn judge_texts(
+    rt: &(impl Abort + AllocGlobal),
+    rows: &[(&str, Option<(u32, LineFault)>)],
+) -> Result<(), Fail> {
+    for (text, expected) in rows {
+        assert_eq!(rt; fault(rt.alloc(), text.as_bytes())?, *expected, "at {text}");
     }
     Ok(())
+}
+
+#[test]
+fn the_first_fault_is_told(rt: HostRuntime) -> Result<(), Fail> {
+    judge_texts(&rt, TEXTS)
 }
 
 #[test]
@@ -107,25 +119,37 @@ fn a_set_has_at_most_64_tasks(rt: HostRuntime) -> Result<(), Fail> {
     }
 }
 
-#[test]
-fn tasks_are_in_range(rt: HostRuntime) -> Result<(), Fail> {
-    for (cost, period, expected) in [
-        (0, 1, false),
-        (1, 0, false),
-        (1, 1, true),
-        (1_000_000, 1_000_000, true),
-        (1_000_001, 1, false),
-        (1, 1_000_001, false),
-    ] {
+/// Costs and periods, and whether a task of them alone is a set.
+const RANGES: &[(u64, u64, bool)] = &[
+    (0, 1, false),
+    (1, 0, false),
+    (1, 1, true),
+    (1_000_000, 1_000_000, true),
+    (1_000_001, 1, false),
+    (1, 1_000_001, false),
+];
+
+/// Checks whether each task alone is a set.
+fn judge_ranges(rt: &(impl Abort + AllocGlobal), rows: &[(u64, u64, bool)]) -> Result<(), Fail> {
+    for (cost, period, expected) in rows {
         let mut tasks = Vec::new(rt.alloc());
         tasks.push(Task {
-            cost,
-            period,
+            cost: *cost,
+            period: *period,
             resource: 1,
         })?;
-        assert_eq!(rt; TaskSet::new(tasks).is_ok(), expected, "at {cost} {period}");
+        assert_eq!(rt;
+            TaskSet::new(tasks).is_ok(),
+            *expected,
+            "at {cost} {period}"
+        );
     }
     Ok(())
+}
+
+#[test]
+fn tasks_are_in_range(rt: HostRuntime) -> Result<(), Fail> {
+    judge_ranges(&rt, RANGES)
 }
 
 #[test]

@@ -1,164 +1,23 @@
 //! From trees to their texts, and which trees have one.
 
-use crate::trees::{num, word};
+use crate::trees::{num, tree_of, word};
 use std::alloc::{AllocError, Global};
+use std::process::Abort;
 use std::test::Fail;
 use yt_graph::{
-    Ast, AstExpr, AstStmt, Item, Op2, OutDecl, OutDecls, Path, PortDecl, PortDecls, Source, Stmts,
-    VarDecl, VarDecls, Words, ast_call, ast_if, ast_if_else, ast_repeat,
+    Ast, AstExpr, AstStmt, Item, Op2, OutDecls, Path, PortDecl, PortDecls, Source, Stmts, VarDecl,
+    VarDecls, Words, ast_call, ast_if,
 };
 use yt_list::Items;
 use yt_parser::{ast_ok, print_graph};
 
-fn name(alloc: Global, text: &str) -> Result<AstExpr, AllocError> {
-    Ok(AstExpr::Name(word(alloc, text)?))
-}
-
-fn two(alloc: Global, op: Op2, left: AstExpr, right: AstExpr) -> Result<AstExpr, AllocError> {
-    Ok(AstExpr::Two {
-        op,
-        left: Box::new(alloc, left)?,
-        right: Box::new(alloc, right)?,
-    })
-}
-
-fn path(alloc: Global, process: &str, port: &str, out: &str) -> Result<Path, AllocError> {
-    Ok(Path {
-        process: word(alloc, process)?,
-        port: word(alloc, port)?,
-        out: word(alloc, out)?,
-    })
-}
-
-/// `let z = not x or -y < 10`
-fn let_z(alloc: Global) -> Result<AstStmt, AllocError> {
-    let not = AstExpr::Not(Box::new(alloc, name(alloc, "x")?)?);
-    let neg = AstExpr::Neg(Box::new(alloc, name(alloc, "y")?)?);
-    let less = two(alloc, Op2::Lt, neg, AstExpr::Num(10))?;
-    Ok(AstStmt::Let {
-        name: word(alloc, "z")?,
-        value: two(alloc, Op2::Or, not, less)?,
-    })
-}
-
-/// `s = (s + 1)`
-fn set_s(alloc: Global) -> Result<AstStmt, AllocError> {
-    let sum = two(alloc, Op2::Add, name(alloc, "s")?, AstExpr::Num(1))?;
-    Ok(AstStmt::Set {
-        name: word(alloc, "s")?,
-        value: AstExpr::Paren(Box::new(alloc, sum)?),
-    })
-}
-
-/// `if z {` .. `} else {` .. `}`, with an `if` without `else` in the second block
-fn choice(alloc: Global) -> Result<AstStmt, AllocError> {
-    let send = AstStmt::Send {
-        out: word(alloc, "q")?,
-        values: Vec::new(alloc),
-    };
-    let inner = ast_if(name(alloc, "x")?, vec![in alloc; send]?);
-    let first = vec![in alloc; set_s(alloc)?]?;
-    Ok(ast_if_else(name(alloc, "z")?, first, vec![in alloc; inner]?))
-}
-
-/// `send o (max2(x, 5), 0)`
-fn send_o(alloc: Global) -> Result<AstStmt, AllocError> {
-    let args = vec![in alloc; name(alloc, "x")?, AstExpr::Num(5)]?;
-    let call = ast_call(word(alloc, "max2")?, args);
-    Ok(AstStmt::Send {
-        out: word(alloc, "o")?,
-        values: vec![in alloc; call, AstExpr::Num(0)]?,
-    })
-}
-
-/// `(x, y)`
-fn params(alloc: Global) -> Result<Words, AllocError> {
-    let mut params = Words::new(alloc);
-    params.push(word(alloc, "x")?)?;
-    params.push(word(alloc, "y")?)?;
-    Ok(params)
-}
-
-/// `out o(2) every 1 out q(0)`
-fn outs(alloc: Global) -> Result<OutDecls, AllocError> {
-    let mut outs = OutDecls::new(alloc);
-    outs.push(OutDecl {
-        name: word(alloc, "o")?,
-        width: num(2),
-        every: Some(num(1)),
-    })?;
-    outs.push(OutDecl {
-        name: word(alloc, "q")?,
-        width: num(0),
-        every: None,
-    })?;
-    Ok(outs)
-}
-
-fn body(alloc: Global) -> Result<Stmts, AllocError> {
-    let turns = ast_repeat(name(alloc, "x")?, num(3), Vec::new(alloc));
-    Ok(vec![in alloc; let_z(alloc)?, choice(alloc)?, turns, send_o(alloc)?]?)
-}
-
-fn first_port(alloc: Global) -> Result<PortDecl, AllocError> {
-    Ok(PortDecl {
-        name: word(alloc, "a")?,
-        source: Source::Input(word(alloc, "in1")?),
-        params: params(alloc)?,
-        outs: outs(alloc)?,
-        body: body(alloc)?,
-    })
-}
-
-/// A port of no parameters and no outs.
-fn port(alloc: Global, body: Stmts) -> Result<PortDecl, AllocError> {
-    Ok(PortDecl {
-        name: word(alloc, "b")?,
-        source: Source::Out(path(alloc, "P", "a", "q")?),
-        params: Words::new(alloc),
-        outs: OutDecls::new(alloc),
-        body,
-    })
-}
-
-fn process(alloc: Global) -> Result<Item, AllocError> {
-    let mut vars = VarDecls::new(alloc);
-    vars.push(VarDecl {
-        name: word(alloc, "s")?,
-        start: -42,
-    })?;
-    let mut ports = PortDecls::new(alloc);
-    ports.push(first_port(alloc)?)?;
-    ports.push(port(alloc, Vec::new(alloc))?)?;
-    Ok(Item::Process {
-        name: word(alloc, "P")?,
-        inside: Some(word(alloc, "disk")?),
-        vars,
-        ports,
-    })
-}
-
-fn graph(alloc: Global) -> Result<Ast, AllocError> {
-    let mut items = Items::new(alloc);
-    items.push(Item::Input {
-        name: word(alloc, "in1")?,
-        width: num(2),
-        period: num(100),
-    })?;
-    items.push(Item::Output {
-        name: word(alloc, "shown")?,
-        path: path(alloc, "P", "a", "o")?,
-    })?;
-    items.push(Item::Resource {
-        name: word(alloc, "disk")?,
-    })?;
-    items.push(process(alloc)?)?;
-    Ok(Ast { items })
-}
+/// Each form of items, statements and expressions, in another layout than the printed one.
+const FORMS: &str = "input in1 ( 02 ) period 100 # a hundred
+output shown from P . a . o resource disk process P in disk{var s=- 42 port a from in1(x,y)out o(2)every 1 out q(0){let z=not x or-y<10 if z{s=(s+1)}else{if x{send q()}}repeat x max 3{}send o(max2(x,5),0)}port b from P.a.q(){}}";
 
 #[test]
 fn a_graph_is_printed(rt: HostRuntime) -> Result<(), Fail> {
-    let ast = graph(rt.alloc())?;
+    let ast = tree_of(rt.alloc(), FORMS)?;
     assert!(rt; ast_ok(&ast));
     let text = print_graph(rt.alloc(), &ast)?;
     assert_eq!(rt;
@@ -190,7 +49,43 @@ process P in disk {
     Ok(())
 }
 
-/// A graph of one process with this variable and this statement.
+fn name(alloc: Global, text: &str) -> Result<AstExpr, AllocError> {
+    Ok(AstExpr::Name(word(alloc, text)?))
+}
+
+fn two(alloc: Global, op: Op2, left: AstExpr, right: AstExpr) -> Result<AstExpr, AllocError> {
+    Ok(AstExpr::Two {
+        op,
+        left: Box::new(alloc, left)?,
+        right: Box::new(alloc, right)?,
+    })
+}
+
+/// `s =` this value
+fn set_s(alloc: Global, value: AstExpr) -> Result<AstStmt, AllocError> {
+    Ok(AstStmt::Set {
+        name: word(alloc, "s")?,
+        value,
+    })
+}
+
+/// A port of no parameters and no outs, which is fed by `P.a.q`.
+fn port(alloc: Global, body: Stmts) -> Result<PortDecl, AllocError> {
+    let path = Path {
+        process: word(alloc, "P")?,
+        port: word(alloc, "a")?,
+        out: word(alloc, "q")?,
+    };
+    Ok(PortDecl {
+        name: word(alloc, "b")?,
+        source: Source::Out(path),
+        params: Words::new(alloc),
+        outs: OutDecls::new(alloc),
+        body,
+    })
+}
+
+/// A graph of one process with a variable that starts so, and this statement.
 fn small(alloc: Global, start: i64, stmt: AstStmt) -> Result<Ast, AllocError> {
     let mut vars = VarDecls::new(alloc);
     vars.push(VarDecl {
@@ -209,15 +104,6 @@ fn small(alloc: Global, start: i64, stmt: AstStmt) -> Result<Ast, AllocError> {
     Ok(Ast { items })
 }
 
-/// Whether `s` can be set to this value.
-fn value_ok(alloc: Global, value: AstExpr) -> Result<bool, AllocError> {
-    let set = AstStmt::Set {
-        name: word(alloc, "s")?,
-        value,
-    };
-    Ok(ast_ok(&small(alloc, 0, set)?))
-}
-
 /// A number in so many parentheses.
 fn in_parens(alloc: Global, count: u32) -> Result<AstExpr, AllocError> {
     let mut e = AstExpr::Num(0);
@@ -229,57 +115,106 @@ fn in_parens(alloc: Global, count: u32) -> Result<AstExpr, AllocError> {
 
 /// A statement in so many blocks.
 fn in_blocks(alloc: Global, count: u32) -> Result<AstStmt, AllocError> {
-    let mut s = set_s(alloc)?;
+    let mut s = set_s(alloc, AstExpr::Num(1))?;
     for _ in 0..count {
         s = ast_if(AstExpr::Num(1), vec![in alloc; s]?);
     }
     Ok(s)
 }
 
-#[test]
-fn trees_that_can_be_written(rt: HostRuntime) -> Result<(), Fail> {
+/// An expression, by its form.
+#[derive(Clone, Copy)]
+enum Value {
+    /// A number.
+    Num(i64),
+    /// A number in so many parentheses.
+    Parens(u32),
+    /// A name.
+    Name(&'static str),
+    /// A call without arguments.
+    Call(&'static str),
+    /// The first operator between numbers, with the second between numbers on its left.
+    Left(Op2, Op2),
+    /// The same, on its right.
+    Right(Op2, Op2),
+}
+
+/// The second operator between two numbers.
+fn inner(alloc: Global, op: Op2) -> Result<AstExpr, AllocError> {
+    two(alloc, op, AstExpr::Num(1), AstExpr::Num(2))
+}
+
+/// The expression of a form.
+fn expression(alloc: Global, value: Value) -> Result<AstExpr, AllocError> {
+    match value {
+        Value::Num(n) => Ok(AstExpr::Num(n)),
+        Value::Parens(count) => in_parens(alloc, count),
+        Value::Name(text) => name(alloc, text),
+        Value::Call(text) => Ok(ast_call(word(alloc, text)?, Vec::new(alloc))),
+        Value::Left(op, left) => two(alloc, op, inner(alloc, left)?, AstExpr::Num(3)),
+        Value::Right(op, right) => two(alloc, op, AstExpr::Num(3), inner(alloc, right)?),
+    }
+}
+
+/// Values, and whether `s` can be set to them in a text.
+const VALUES: &[(Value, bool)] = &[
+    (Value::Parens(31), true),
+    (Value::Parens(32), false),
+    (Value::Num(i64::MAX), true),
+    (Value::Num(-1), false),
+    (Value::Name("every"), false),
+    (Value::Name(""), false),
+    (Value::Name("1st"), false),
+    (Value::Call("f"), false),
+    (Value::Left(Op2::Sub, Op2::Sub), true),
+    (Value::Right(Op2::Sub, Op2::Sub), false),
+    (Value::Left(Op2::Sub, Op2::Mul), true),
+    (Value::Right(Op2::Sub, Op2::Mul), true),
+    (Value::Left(Op2::Mul, Op2::Add), false),
+    (Value::Right(Op2::Mul, Op2::Add), false),
+    (Value::Left(Op2::Lt, Op2::Eq), false),
+    (Value::Right(Op2::Lt, Op2::Eq), false),
+    (Value::Left(Op2::And, Op2::And), true),
+    (Value::Right(Op2::And, Op2::And), false),
+    (Value::Left(Op2::Or, Op2::And), true),
+    (Value::Right(Op2::Or, Op2::And), true),
+];
+
+/// Checks whether `s` can be set to each value.
+fn judge_values(rt: &(impl Abort + AllocGlobal), rows: &[(Value, bool)]) -> Result<(), Fail> {
     let alloc = rt.alloc();
-    assert!(rt; value_ok(alloc, in_parens(alloc, 31)?)?);
-    assert!(rt; !value_ok(alloc, in_parens(alloc, 32)?)?);
-    assert!(rt; ast_ok(&small(alloc, 0, in_blocks(alloc, 7)?)?));
-    assert!(rt; !ast_ok(&small(alloc, 0, in_blocks(alloc, 8)?)?));
-    assert!(rt; value_ok(alloc, AstExpr::Num(i64::MAX))?);
-    assert!(rt; !value_ok(alloc, AstExpr::Num(-1))?);
-    assert!(rt; ast_ok(&small(alloc, i64::MIN + 1, set_s(alloc)?)?));
-    assert!(rt; !ast_ok(&small(alloc, i64::MIN, set_s(alloc)?)?));
-    assert!(rt; !value_ok(alloc, name(alloc, "every")?)?);
-    assert!(rt; !value_ok(alloc, name(alloc, "")?)?);
-    assert!(rt; !value_ok(alloc, name(alloc, "1st")?)?);
-    let none = ast_call(word(alloc, "f")?, Vec::new(alloc));
-    assert!(rt; !value_ok(alloc, none)?);
+    for (number, (value, expected)) in rows.iter().enumerate() {
+        let set = set_s(alloc, expression(alloc, *value)?)?;
+        let told = ast_ok(&small(alloc, 0, set)?);
+        assert_eq!(rt; told, *expected, "at row {number}");
+    }
     Ok(())
 }
 
 #[test]
-fn sides_bind_tightly_enough(rt: HostRuntime) -> Result<(), Fail> {
+fn values_that_can_be_written(rt: HostRuntime) -> Result<(), Fail> {
+    judge_values(&rt, VALUES)
+}
+
+/// Starts of a variable and depths of a statement's blocks, and whether a text has them.
+const PROCESSES: &[(i64, u32, bool)] = &[
+    (0, 7, true),
+    (0, 8, false),
+    (i64::MIN + 1, 0, true),
+    (i64::MIN, 0, false),
+];
+
+/// Checks whether a text has each process.
+fn judge_processes(rt: &(impl Abort + AllocGlobal), rows: &[(i64, u32, bool)]) -> Result<(), Fail> {
     let alloc = rt.alloc();
-    for (outer, inner, left_ok, right_ok) in [
-        (Op2::Sub, Op2::Sub, true, false),
-        (Op2::Sub, Op2::Mul, true, true),
-        (Op2::Mul, Op2::Add, false, false),
-        (Op2::Lt, Op2::Eq, false, false),
-        (Op2::And, Op2::And, true, false),
-        (Op2::Or, Op2::And, true, true),
-    ] {
-        let sum = two(alloc, inner, AstExpr::Num(1), AstExpr::Num(2))?;
-        let left = two(alloc, outer, sum, AstExpr::Num(3))?;
-        assert_eq!(rt;
-            value_ok(alloc, left)?,
-            left_ok,
-            "at {outer:?} and {inner:?}"
-        );
-        let sum = two(alloc, inner, AstExpr::Num(1), AstExpr::Num(2))?;
-        let right = two(alloc, outer, AstExpr::Num(3), sum)?;
-        assert_eq!(rt;
-            value_ok(alloc, right)?,
-            right_ok,
-            "at {outer:?} and {inner:?}"
-        );
+    for (start, depth, expected) in rows {
+        let told = ast_ok(&small(alloc, *start, in_blocks(alloc, *depth)?)?);
+        assert_eq!(rt; told, *expected, "at {start} and {depth}");
     }
     Ok(())
+}
+
+#[test]
+fn processes_that_can_be_written(rt: HostRuntime) -> Result<(), Fail> {
+    judge_processes(&rt, PROCESSES)
 }

@@ -1,2 +1,3 @@
-pub mod Misses
-pub mod Places
+pub mod Lemmas
+mod Misses
+mod Places

@@ -12,10 +12,10 @@ use Rattle.yt_fits.specs.declared.interval.Breach.{Breach}
 use Rattle.yt_fits.specs.Intervals.{IsLowestBreach}
 use Rattle.yt_fits.specs.Unfits.{IsReason}
 use Rattle.yt_log.specs.Tasks.{no_task, task_of}
-use Rattle.yt_log.proofs.Demands.{task_of-suc}
+use Rattle.yt_log.proofs.Lemmas.{task_of-suc}
 use Rattle.yt_log.specs.Patterns.{MustMiss, pattern_plan, all_tasks}
-use Rattle.yt_log.proofs.Overloads.{overloads}
-use Rattle.yt_log.proofs.Blockers.{blockers}
+use Rattle.yt_log.proofs.Lemmas.{overloads}
+use Rattle.yt_log.proofs.Lemmas.{blockers}
 use Rattle.yt_witness.specs.declared.pattern.Pattern.{Pattern}
 use Rattle.yt_witness.specs.declared.pattern.Pattern.TheVariants.{All, Blocker}
 use Rattle.yt_witness.specs.Witnesses.{IsPatternOf, horizon, plan_of}

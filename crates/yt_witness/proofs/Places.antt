@@ -5,7 +5,7 @@ use Rattle.yt_set.specs.declared.task.Task.{Task}
 use Rattle.yt_set.specs.Tasks.{jobs_due}
 use Rattle.yt_log.specs.Tasks.{no_task, task_of}
 use Rattle.yt_log.specs.Patterns.{Arrivals, all_tasks, arrivals_from, blocker}
-use Rattle.yt_log.proofs.Demands.{task_of-suc}
+use Rattle.yt_log.proofs.Lemmas.{task_of-suc}
 use Rattle.yt_witness.specs.declared.pattern.Pattern.{Pattern}
 use Rattle.yt_witness.specs.declared.pattern.Pattern.TheVariants.{All, Blocker}
 use Rattle.yt_witness.specs.Witnesses.{arrivals_of}

@@ -1,6 +1,8 @@
 -- The first waiting message of each target, in the order in which they are placed.
 use Rattle.std.specs.Prelude.{◌≡◌, ◌⊎◌, ℕ, ◌<◌, ◌≤◌, Bool, true, false, nat_lt, ◌==◌, ◌&&◌, ◌||◌, List, length, slice_index_or}
 use Rattle.std.specs.List.{Contains}
+use Rattle.yt_order.specs.Falling.{IsFallingBy, IsLeastBy}
+use Rattle.yt_chan.specs.Limits.{most_outputs, most_ports}
 use Rattle.yt_chan.specs.declared.heads.Head.{Head}
 use Rattle.yt_chan.specs.declared.target.Arrived.{Arrived}
 use Rattle.yt_chan.specs.declared.target.Arrived.TheVariants.{Port, Output}
@@ -18,12 +20,12 @@ comes_before a b = nat_lt a.time b.time || (a.time == b.time && target_before a.
 
 -- a target's number is in the limits
 abbrev pub IsWithin : Arrived → Type 0
-IsWithin (Port n) = n ≤ 64
-IsWithin (Output n) = n ≤ 16
+IsWithin (Port n) = n ≤ most_ports
+IsWithin (Output n) = n ≤ most_outputs
 
 -- each head comes before those in front of it
 abbrev pub IsFalling : List Head → Type 0
-IsFalling heads = (i j : ℕ) (d : Head) → i < j → j < length heads → comes_before (slice_index_or heads j d) (slice_index_or heads i d) ≡ true
+IsFalling heads = IsFallingBy comes_before heads
 
 -- each target is in the limits, and has one head at most
 pub record AreApart (heads : List Head) : Type 0 where
@@ -31,19 +33,11 @@ pub record AreApart (heads : List Head) : Type 0 where
   pub one : (a b : Head) → Contains heads a → Contains heads b → a.target ≡ b.target → a ≡ b
 
 -- a head that none comes before
-pub record IsFirst (heads : List Head) (first : Head) : Type 0 where
-  pub has : Contains heads first
-  pub least : (other : Head) → Contains heads other → comes_before other first ≡ false
+abbrev pub IsFirst : List Head → Head → Type 0
+IsFirst heads first = IsLeastBy comes_before heads first
 
 -- one list has the heads of another, and besides one that the other may have or not
 pub record HasAlso (heads : List Head) (head : Head) (more : List Head) : Type 0 where
-  pub added : Contains more head
-  pub kept : (other : Head) → Contains heads other → Contains more other
-  pub only : (other : Head) → Contains more other → (other ≡ head) ⊎ Contains heads other
-
--- one list has the heads of another, and besides one that the other hasn't
-pub record HasOneMore (heads : List Head) (head : Head) (more : List Head) : Type 0 where
-  pub fresh : Contains heads head → ⊥
   pub added : Contains more head
   pub kept : (other : Head) → Contains heads other → Contains more other
   pub only : (other : Head) → Contains more other → (other ≡ head) ⊎ Contains heads other

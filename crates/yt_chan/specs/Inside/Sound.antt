@@ -1,5 +1,7 @@
 -- What stays true of the queues and places of a `Channels`.
 use Rattle.std.specs.Prelude.{◌≡◌, ℕ, ◌+◌, ◌-◌, ◌*◌, ◌%◌, ◌^◌, ◌≤◌, ◌<◌, ◌==◌, if◌then◌else◌, true, false, List, [], length, slice_index_or}
+use Rattle.yt_log.specs.Limits.{most_arrival}
+use Rattle.yt_chan.specs.Limits.{most_base, most_gap, most_ports, most_sends}
 use Rattle.yt_chan.specs.declared.wire.Wire.{Wire}
 use Rattle.yt_chan.specs.declared.queue.WireQueue.{WireQueue}
 use Rattle.yt_chan.specs.declared.target.Arrived.{Arrived}
@@ -21,9 +23,9 @@ pub record IsBatchOf (wire : Wire) (number arrival : ℕ) (batch : Batch) : Type
 pub record IsQueue (wire : Wire) (number arrival : ℕ) (queue : WireQueue) : Type 0 where
   pub rooms : (queue.older.room ≡ wire.sends) × (queue.newer.room ≡ wire.sends)
   pub few : (length queue.older.messages ≤ wire.sends) × (length queue.newer.messages ≤ wire.sends)
-  pub bases : (queue.older.base ≤ 9000000) × (queue.newer.base ≤ 9000000)
+  pub bases : (queue.older.base ≤ most_base) × (queue.newer.base ≤ most_base)
   pub some : queue.closed ≡ true → 1 ≤ length queue.newer.messages
-  pub counted : queue.first + count queue ≤ 64 * number
+  pub counted : queue.first + count queue ≤ most_sends * number
   pub older : 1 ≤ length queue.older.messages → IsBatchOf wire number arrival queue.older
   pub newer : queue.closed ≡ true → IsBatchOf wire number arrival queue.newer
   pub apart : queue.closed ≡ true → 1 ≤ length queue.older.messages → (queue.older.number < queue.newer.number) × (queue.older.base + wire.every * wire.period ≤ queue.newer.base)
@@ -53,8 +55,8 @@ pub record IsSound (widths : List ℕ) (wires : List Wire) (queues : List WireQu
   pub jobs_long : length jobs ≡ length widths + 1
   pub ports_long : length ports ≡ length widths + 1
   pub outputs_long : length outputs ≡ 17
-  pub early : (port : ℕ) → (closed_at jobs port).arrival ≤ 8000000
-  pub numbers : (port : ℕ) → (closed_at jobs port).number < 4294967296
+  pub early : (port : ℕ) → (closed_at jobs port).arrival ≤ most_arrival
+  pub numbers : (port : ℕ) → (closed_at jobs port).number < 2 ^ 32
   pub feeds : (target : Arrived) → (inbox_of (length wires) ports outputs target).wire ≡ wire_to wires target
   pub each : (k : ℕ) → k < length wires → IsQueue (wire_at wires k) (closed_at jobs (wire_at wires k).port).number (closed_at jobs (wire_at wires k).port).arrival (queue_at queues k)
   pub at : (target : Arrived) → IsCursor (queue_at queues (inbox_of (length wires) ports outputs target).wire) (inbox_of (length wires) ports outputs target).next
@@ -67,11 +69,11 @@ IsThere ports outputs (Output output) = output < length outputs
 -- what reading the waiting messages of targets needs
 pub record AreReadable (wires : List Wire) (queues : List WireQueue) (ports outputs : List Inbox) : Type 0 where
   pub long : length queues ≡ length wires
-  pub bases : (k : ℕ) → k < length queues → ((queue_at queues k).older.base ≤ 9000000) × ((queue_at queues k).newer.base ≤ 9000000)
-  pub few : (k : ℕ) → k < length queues → (length (queue_at queues k).older.messages ≤ 64) × (length (queue_at queues k).newer.messages ≤ 64)
-  pub gaps : (k : ℕ) → k < length queues → (wire_at wires k).gap ≤ 1000000000
+  pub bases : (k : ℕ) → k < length queues → ((queue_at queues k).older.base ≤ most_base) × ((queue_at queues k).newer.base ≤ most_base)
+  pub few : (k : ℕ) → k < length queues → (length (queue_at queues k).older.messages ≤ most_sends) × (length (queue_at queues k).newer.messages ≤ most_sends)
+  pub gaps : (k : ℕ) → k < length queues → (wire_at wires k).gap ≤ most_gap
   pub at : (target : Arrived) → IsCursor (queue_at queues (inbox_of (length wires) ports outputs target).wire) (inbox_of (length wires) ports outputs target).next
-  pub few_ports : length ports ≤ 65
+  pub few_ports : length ports ≤ most_ports + 1
   pub few_outputs : length outputs ≤ 17
   pub ports_there : (k j : ℕ) → k < length wires → j < length (wire_at wires k).ports → slice_index_or (wire_at wires k).ports j 0 < length ports
   pub outputs_there : (k j : ℕ) → k < length wires → j < length (wire_at wires k).outputs → slice_index_or (wire_at wires k).outputs j 0 < length outputs
@@ -85,7 +87,7 @@ pub record IsTable (wires : List Wire) (table : List ℕ) : Type 0 where
 -- what placing the next message of an inbox needs
 pub record CanArrive (queues : List WireQueue) (inbox : Inbox) : Type 0 where
   pub there : inbox.wire < length queues
-  pub few : (length (queue_at queues inbox.wire).older.messages ≤ 64) × (length (queue_at queues inbox.wire).newer.messages ≤ 64)
+  pub few : (length (queue_at queues inbox.wire).older.messages ≤ most_sends) × (length (queue_at queues inbox.wire).newer.messages ≤ most_sends)
   pub at : IsCursor (queue_at queues inbox.wire) inbox.next
   pub counted : (queue_at queues inbox.wire).first + count (queue_at queues inbox.wire) < 2 ^ 64
   pub waits : inbox.next < (queue_at queues inbox.wire).first + count (queue_at queues inbox.wire)

@@ -12,14 +12,13 @@ ghost use Rattle.yt_log.specs.Plan.{IsLegalPlan};
 ghost use Rattle.yt_log.specs.Tasks.{Has, task_of};
 ghost use Rattle.yt_log.specs.Ticks.{tick as tick_of};
 
-use super::MOST_TASKS;
 use super::counts::ticks_below;
 use super::heads::{Head, NO_HEAD, least_head, moved, next_arrival, start};
 use super::stretch::{Stretch, next_from, stretch_from};
 use crate::job::Job;
 use crate::log::Log;
 use crate::plan::{Plan, PlanItem};
-use yt_set::TaskSet;
+use yt_set::{MOST_TASKS, TaskSet};
 
 /// What a log is judged by, in this order.
 #[derive(Clone, Copy, Debug, PartialEq, Eq)]

@@ -4,7 +4,10 @@
 ghost use Rattle.std.specs.Prelude.{◌≡◌, ◌↔◌, ℕ, suc, ◌+◌, ◌^◌, ◌<◌, ◌≤◌, [], ◌∷◌, length, IfNone, IfSome, IsTrue};
 ghost use Rattle.std.specs.List.{All};
 ghost use Rattle.yt_set.specs.Tasks.{floor_of};
-ghost use Rattle.yt_log.specs.EdfDdm.{lowered, precedes};
+ghost use Rattle.yt_set.specs.Limits.{most_tasks};
+ghost use Rattle.yt_log.specs.Limits.{most_arrival};
+ghost use Rattle.yt_log.specs.EdfDdm.{lowered};
+ghost use Rattle.yt_order.specs.Words.{precedes};
 ghost use Rattle.yt_log.specs.Heads.{Leads, Starts, Waits, head_at, head_rank, item_of, ran};
 ghost use Rattle.yt_log.specs.Plan.{its_task};
 
@@ -32,8 +35,8 @@ pub(super) const NO_HEAD: Head = Head {
 /// Sets each head to its task's first item.
 pub(super) fn start(set: &TaskSet, items: &[PlanItem], heads: &mut [Head])
     requires all { length heads.old ≡ length set.now }
-    requires few { length set.now ≤ 64 }
-    requires early { All (λ item. item.arrival ≤ 8000000) items.now }
+    requires few { length set.now ≤ most_tasks }
+    requires early { All (λ item. item.arrival ≤ most_arrival) items.now }
     ensures starts { (n : ℕ) → n < length heads.new → Starts set.now items.now (suc n) 0 (head_at heads.new n) }
     ensures long { length heads.new ≡ length set.now }
 {
@@ -47,7 +50,7 @@ pub(super) fn next_head(set: &TaskSet, items: &[PlanItem], task: u32, from: usiz
     requires from_one { 1 ≤ task }
     requires in_set { task ≤ length set.now }
     requires within { from ≤ length items.now }
-    requires early { All (λ item. item.arrival ≤ 8000000) items.now }
+    requires early { All (λ item. item.arrival ≤ most_arrival) items.now }
     ensures { Starts set.now items.now task from result }
 {
     for place in from..items.len() {
@@ -117,7 +120,7 @@ fn waits(items: &[PlanItem], head: Head, tick: u64) -> bool
 }
 
 /// Whether a head comes before another: by its current deadline; begun before not begun; by arrival, task and number.
-#[tactic(auto, unfolding(crate::specs::EdfDdm::precedes, crate::specs::Heads::head_rank, crate::specs::Heads::item_at))]
+#[tactic(auto, unfolding(yt_order::specs::Words::precedes, crate::specs::Heads::head_rank, crate::specs::Heads::item_at))]
 fn precedes(items: &[PlanItem], head: Head, other: Head) -> bool
     requires head { head.place < length items.now }
     requires other { other.place < length items.now }
@@ -135,7 +138,7 @@ fn precedes(items: &[PlanItem], head: Head, other: Head) -> bool
 }
 
 /// Whether an item comes before another by arrival, task and number.
-#[tactic(auto, unfolding(crate::specs::EdfDdm::precedes))]
+#[tactic(auto, unfolding(yt_order::specs::Words::precedes))]
 fn comes_before(item: PlanItem, other: PlanItem) -> bool
     ensures { result ≡ precedes (item.arrival ∷ item.job.task ∷ item.job.number ∷ []) (other.arrival ∷ other.job.task ∷ other.job.number ∷ []) }
 {
@@ -184,7 +187,7 @@ pub(super) fn moved(set: &TaskSet, items: &[PlanItem], head: Head, tick: u64, ti
     requires most { head.had + ticks ≤ (item_of items.now head).cost }
     requires soon { tick + ticks < 2 ^ 64 }
     requires some { 0 < ticks }
-    requires early { All (λ item. item.arrival ≤ 8000000) items.now }
+    requires early { All (λ item. item.arrival ≤ most_arrival) items.now }
     ensures on { head.had + ticks < (item_of items.now head).cost → result ≡ ran set.now items.now tick ticks head }
     ensures next { head.had + ticks ≡ (item_of items.now head).cost → Starts set.now items.now (item_of items.now head).job.task (head.place + 1) result }
 {

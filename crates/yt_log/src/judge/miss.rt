@@ -1,20 +1,21 @@
 //! The first miss of a log.
 ghost use Rattle.std.specs.Prelude.{◌≡◌, ◌↔◌, ℕ, ◌+◌, ◌-◌, ◌<◌, ◌≤◌, length, slice_index, IfNone, IfSome, IsNone, MatchOption};
+ghost use Rattle.yt_log.specs.declared.plan.PlanItem.{PlanItem};
 ghost use Rattle.yt_log.specs.Counts.{AreOrdered, Judges, Passes, rank_of, segment_at, sooner, ticks_below};
-ghost use Rattle.yt_log.specs.EdfDdm.{precedes};
+ghost use Rattle.yt_order.specs.Words.{precedes};
 ghost use Rattle.yt_log.specs.Judging.{IsFirstMiss};
 ghost use Rattle.yt_log.specs.Plan.{IsLegal, deadline_of};
+ghost use Rattle.yt_log.specs.Tasks.{Has};
 ghost use Rattle.yt_log.specs.Ticks.{IsLawful, KeepsDeadlines, Misses};
 
-use super::MOST_TASKS;
 use super::counts::{passed, ticks_below};
 use crate::job::{Job, Segment};
 use crate::log::Log;
 use crate::plan::{Plan, PlanItem};
-use yt_set::TaskSet;
+use yt_set::{MOST_TASKS, TaskSet};
 
 /// A job that isn't done by its deadline.
-#[derive(Clone, Copy, Debug)]
+#[derive(Clone, Copy, Debug, PartialEq, Eq)]
 pub struct Miss {
     /// Its deadline.
     pub due: u64,
@@ -23,10 +24,11 @@ pub struct Miss {
 
 /// The first job that misses its deadline, of those with a deadline of at most `upto`: the least by deadline, task and number. `None`
 /// comes exactly where each of them has its cost in ticks below its deadline. The log may be any log, and has `upto` ticks or more.
-pub fn first_miss(set: &TaskSet, plan: &Plan, log: &Log, upto: u64) -> Option<Job>
+pub fn first_miss(set: &TaskSet, plan: &Plan, log: &Log, upto: u64) -> Option<Miss>
     requires legal { IsLegal set.now plan.now }
     requires told { upto ≤ length log.now }
-    ensures first { IfSome result (λ job. IsFirstMiss set.now plan.now log.now upto job) }
+    ensures first { IfSome result (λ miss. IsFirstMiss set.now plan.now log.now upto miss.job) }
+    ensures due { IfSome result (λ miss. (item : PlanItem) → Has plan.now item → item.job ≡ miss.job → miss.due ≡ deadline_of set.now item) }
     ensures none { IsNone result ↔ (Misses set.now plan.now log.now upto → ⊥) }
 
     // No lawful log gives a job more ticks than it costs.
@@ -39,10 +41,7 @@ pub fn first_miss(set: &TaskSet, plan: &Plan, log: &Log, upto: u64) -> Option<Jo
     for item in plan.items() {
         first = sooner(first, judge(set, segments, seen, item, upto));
     }
-    match first {
-        Some(miss) => Some(miss.job),
-        None => None,
-    }
+    first
 }
 
 /// The miss of an item, where it has a deadline of at most `upto` and misses it. `seen` has for each task so many segments in front
@@ -111,7 +110,7 @@ fn sooner(first: Option<Miss>, other: Option<Miss>) -> Option<Miss>
 }
 
 /// Whether a miss comes before another: by deadline, then task, then number.
-#[tactic(auto, unfolding(crate::specs::EdfDdm::precedes, crate::specs::Counts::rank_of))]
+#[tactic(auto, unfolding(yt_order::specs::Words::precedes, crate::specs::Counts::rank_of))]
 fn precedes(miss: &Miss, other: &Miss) -> bool
     ensures { result ≡ precedes (rank_of miss.now) (rank_of other.now) }
 {

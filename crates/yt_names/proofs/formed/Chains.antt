@@ -9,8 +9,8 @@ use Rattle.yt_graph.specs.declared.ast.Source.{Source}
 use Rattle.yt_graph.specs.declared.operator.OpHead.{OpHead}
 use Rattle.yt_graph.specs.AstPicture.{PortDeclTree, ItemTree}
 use Rattle.yt_graph.specs.WellFormed.{EndsWithin}
-use Rattle.yt_names.specs.Paths.{look_up, source_width, target_port, port_before, ports_before, all_ports, step_back, steps_back}
-use Rattle.yt_names.specs.Faults.{width_faults}
+use Rattle.yt_name_faults.specs.Paths.{look_up, source_width, target_port, port_before, ports_before, all_ports, step_back, steps_back}
+use Rattle.yt_name_faults.specs.Faults.{width_faults}
 use Rattle.yt_names.specs.Resolved.{feed_to, resolved_feed, resolved_ports, resolved}
 use Rattle.yt_names.proofs.formed.Lists.{Each, each_get}
 use Rattle.yt_names.proofs.formed.Places.{number_is, some_then}

@@ -7,13 +7,16 @@ use Rattle.yt_graph.specs.declared.ast.OutDecl.{OutDecl}
 use Rattle.yt_graph.specs.declared.operator.OpHead.{OpHead}
 use Rattle.yt_graph.specs.AstPicture.{PortDeclTree, ItemTree, input, output, resource, process}
 use Rattle.yt_graph.specs.WellFormed.{IsWithin, AreDifferent}
-use Rattle.yt_names.specs.declared.fault.LimitKind.{LimitKind}
-use Rattle.yt_names.specs.declared.fault.LimitKind as limit
-use Rattle.yt_names.specs.declared.room.Room.{Room}
-use Rattle.yt_names.specs.Names.{first_of, item_name, item_names, port_names, var_names, out_names}
-use Rattle.yt_names.specs.Paths.{placed_from, look_up, source_width, ports_before, all_ports, ports_of, comes_back}
-use Rattle.yt_names.specs.Handlers.{handler_faults}
-use Rattle.yt_names.specs.Faults.{declared_faults, range_faults, err_faults, width_faults, inside_faults, vars_faults, every_faults, out_faults, outs_faults, outs_room, port_faults, ports_faults, item_faults, items_faults, room_after, full_room, name_faults}
+use Rattle.yt_name_faults.specs.declared.fault.LimitKind.{LimitKind}
+use Rattle.yt_name_faults.specs.declared.fault.LimitKind as limit
+use Rattle.yt_name_faults.specs.declared.room.Room.{Room}
+use Rattle.yt_table.specs.Tables.{first_of}
+use Rattle.yt_graph.specs.ItemNames.{item_name}
+use Rattle.yt_name_faults.specs.Names.{item_names, port_names, var_names, out_names}
+use Rattle.yt_name_faults.specs.Paths.{placed_from, look_up, source_width, ports_before, all_ports, ports_of, comes_back}
+use Rattle.yt_name_faults.specs.Handlers.{handler_faults}
+use Rattle.yt_graph.specs.Limits.{most_outs}
+use Rattle.yt_name_faults.specs.Faults.{declared_faults, range_faults, err_faults, width_faults, inside_faults, vars_faults, every_faults, out_faults, outs_faults, port_faults, ports_faults, item_faults, items_faults, room_after, full_room, name_faults}
 use Rattle.yt_names.specs.Resolved.{size_of}
 use Rattle.yt_names.proofs.WellFormedLemmas.{no_part, no_cause, has_room, in_range}
 use Rattle.yt_names.proofs.formed.Lists.{Each, AreOwn, own_differ, is_own, found, AreFound, found_head, found_tail}
@@ -95,9 +98,9 @@ module _ (outs : List OutDecl) where
         good = (no_part (range_faults 0 8 o.width limit.TheVariants.Width) (every_faults o.every) here.1, next.good);
       }
 
-  outs_good : outs_faults outs 0 outs_room outs ≡ [] → OutsWalked out_first 0 outs_room outs
+  outs_good : outs_faults outs 0 most_outs outs ≡ [] → OutsWalked out_first 0 most_outs outs
   unfolding out_first
-  outs_good e = outs_walked 0 outs_room outs (λ y h. found y 0 (out_names outs) h) e
+  outs_good e = outs_walked 0 most_outs outs (λ y h. found y 0 (out_names outs) h) e
 
 -- ports of a process
 record PortsWalked (all : List ItemTree) (ops : List OpHead) (vars : List VarDecl) (f : List ℕ → Option ℕ) (n : ℕ) (rest : List PortDeclTree) : Type 0 where

@@ -19,11 +19,13 @@ use Rattle.yt_graph.specs.declared.graph as graph
 use Rattle.yt_graph.specs.AstPicture.{PortDeclTree, ItemTree, input, output, resource, process}
 use Rattle.yt_graph.specs.Picture.{PortTree}
 use Rattle.yt_graph.specs.WellFormed.{IsOutAnd, IsFeedOfWidth}
-use Rattle.yt_names.specs.declared.fault.NameFault.{NameFault}
-use Rattle.yt_names.specs.declared.target.Target.{Target}
-use Rattle.yt_names.specs.Names.{first_of, item_name, item_names, port_names, out_names}
-use Rattle.yt_names.specs.Paths.{Placed, placed_from, placed_named, look_up, in_placed, in_part, port_at, out_of_port, out_at, named_out, source_width, width_at, input_width, target_width, all_ports, ports_of}
-use Rattle.yt_names.specs.Faults.{width_faults, is_resource, resource_faults, inside_faults}
+use Rattle.yt_name_faults.specs.declared.fault.NameFault.{NameFault}
+use Rattle.yt_name_faults.specs.declared.target.Target.{Target}
+use Rattle.yt_table.specs.Tables.{first_of}
+use Rattle.yt_graph.specs.ItemNames.{item_name}
+use Rattle.yt_name_faults.specs.Names.{item_names, port_names, out_names}
+use Rattle.yt_name_faults.specs.Paths.{Placed, placed_from, placed_named, look_up, in_placed, in_part, port_at, out_of_port, out_at, named_out, source_width, width_at, input_width, target_width, all_ports, ports_of}
+use Rattle.yt_name_faults.specs.Faults.{width_faults, is_resource, resource_faults, inside_faults}
 use Rattle.yt_names.specs.Resolved.{size_of, place_of, count_of, number_of, inputs_of, resources_of, vars_of, out_head, feed_to, resolved_feed, resource_name, resolved_port, resolved_ports, resolved}
 use Rattle.yt_names.proofs.WellFormedLemmas.{no_cause}
 use Rattle.yt_names.proofs.formed.Lists.{Each, each_append, each_get, each_map, shifted}

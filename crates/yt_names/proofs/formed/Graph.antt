@@ -14,12 +14,12 @@ use Rattle.yt_graph.specs.AstWellFormed.{IsName, IsWritablePort, IsWritableItem,
 use Rattle.yt_graph.specs.Names.{is_name}
 use Rattle.yt_graph.specs.Picture.{PortTree, GraphTree}
 use Rattle.yt_graph.specs.WellFormed.{IsOutAnd, IsFineInput, IsFineOutput, IsFineVar, IsFinePort, IsFineGroup, IsUnderOne, IsFeedOfWidth, EndsWithin, AreDifferent, AreDifferentWithin, outer_names, block_uses_var, IsOwnGroup}
-use Rattle.yt_names.specs.declared.fault.NameFault.{NameFault}
-use Rattle.yt_names.specs.declared.target.Target.{Target}
-use Rattle.yt_names.specs.Names.{out_names}
-use Rattle.yt_names.specs.Paths.{look_up, all_ports, ports_of}
-use Rattle.yt_names.specs.Faults.{err_faults, name_faults}
-use Rattle.yt_names.specs.Handlers.{locals_room}
+use Rattle.yt_name_faults.specs.declared.fault.NameFault.{NameFault}
+use Rattle.yt_name_faults.specs.declared.target.Target.{Target}
+use Rattle.yt_name_faults.specs.Names.{out_names}
+use Rattle.yt_name_faults.specs.Paths.{look_up, all_ports, ports_of}
+use Rattle.yt_name_faults.specs.Faults.{err_faults, name_faults}
+use Rattle.yt_graph.specs.Limits.{most_locals}
 use Rattle.yt_names.specs.Resolved.{size_of, count_of, number_of, out_head, inputs_of, resources_of, own_resource, own_resources_of, resolved_groups, var_of, vars_of, output_to, outputs_of, resource_name, param_locals, resolved_body, resolved_port, resolved_ports_of, resolved_ports, resolved}
 use Rattle.yt_names.specs.Laws.{AreFineHeads, ResolvedIsWellFormed}
 use Rattle.yt_names.proofs.WellFormedLemmas.{counted, ports_counted}
@@ -105,7 +105,7 @@ some_vars : (vars : List VarDecl) (outs : List OutDecl) (ops : List OpHead) (fir
 some_vars vars outs ops first p used none =
     true≢false (sym used
     ∙ ap (λ v. block_uses_var (resolved_body (record { first = first; vars = v; outs = outs; ops = ops }) p.params p.body)) none
-    ∙ block_none first outs ops (param_locals [] locals_room p.params) (locals_room - length p.params) p.body)
+    ∙ block_none first outs ops (param_locals [] most_locals p.params) (most_locals - length p.params) p.body)
 
 -- an out that is there, whatever else is said of it
 out_any : (g : GraphTree) (port out : ℕ) (P : OutHead → Type 0) → IsOutAnd g port out P → IsOutAnd g port out (λ _. Unit {0})

@@ -7,7 +7,7 @@ use Rattle.yt_graph.specs.declared.operator.OpHead.{OpHead}
 use Rattle.yt_graph.specs.AstPicture.{PortDeclTree, ItemTree, input, output, resource, process}
 use Rattle.yt_graph.specs.Picture.{PortTree, GraphTree}
 use Rattle.yt_graph.specs.WellFormed.{IsWithin, AreDifferent, IsFineGroup, IsUnderOne, block_uses_var}
-use Rattle.yt_names.specs.Faults.{inside_faults}
+use Rattle.yt_name_faults.specs.Faults.{inside_faults}
 use Rattle.yt_names.specs.Resolved.{number_among, resources_of, own_resource, own_resources_of, resolved_groups, resource_name, vars_of, resolved_port, resolved_ports_of, resolved_ports}
 use Rattle.yt_names.proofs.formed.Lists.{Each, each_append, each_map, each_mapped, each_of, none_each, same_bytes, bytes_turned, or_first, any_left, any_right}
 use Rattle.yt_names.proofs.formed.Places.{number_within}

@@ -7,7 +7,8 @@ use Rattle.std.proofs.lemmas.List.Folds.{list_any-append}
 use Rattle.std.proofs.lemmas.Slice.Eq.{bytes_eq-Decides}
 use Rattle.std.proofs.lemmas.Bool.Decides.{nat_tests}
 use Rattle.yt_graph.specs.WellFormed.{AreDifferent, AreDifferentWithin}
-use Rattle.yt_names.specs.Names.{first_of, is_other}
+use Rattle.yt_table.specs.Tables.{first_of}
+use Rattle.yt_name_faults.specs.Names.{is_other}
 
 -- what holds of each item, by recursion
 abbrev pub Each : {X : Type 0} → (X → Type 0) → List X → Type 0

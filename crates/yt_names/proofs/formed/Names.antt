@@ -9,10 +9,11 @@ use Rattle.yt_graph.specs.declared.graph as graph
 use Rattle.yt_graph.specs.AstPicture.{PortDeclTree, ItemTree, input, output, resource, process}
 use Rattle.yt_graph.specs.Picture.{PortTree}
 use Rattle.yt_graph.specs.WellFormed.{AreDifferent, AreDifferentWithin}
-use Rattle.yt_names.specs.declared.fault.NameFault.{NameFault}
-use Rattle.yt_names.specs.declared.target.Target.{Target}
-use Rattle.yt_names.specs.Names.{item_name, item_names, port_names, var_names}
-use Rattle.yt_names.specs.Paths.{look_up}
+use Rattle.yt_name_faults.specs.declared.fault.NameFault.{NameFault}
+use Rattle.yt_name_faults.specs.declared.target.Target.{Target}
+use Rattle.yt_graph.specs.ItemNames.{item_name}
+use Rattle.yt_name_faults.specs.Names.{item_names, port_names, var_names}
+use Rattle.yt_name_faults.specs.Paths.{look_up}
 use Rattle.yt_names.specs.Resolved.{inputs_of, resources_of, own_resource, own_resources_of, var_of, vars_of, outputs_of, output_to, resource_name, resolved_port, resolved_ports_of, resolved_ports}
 use Rattle.yt_names.proofs.formed.Lists.{Each, each_append, each_right, each_mapped, each_of, both_fail, neither_holds, none_append, none_each, one_more, different_right, apart, owner_joins}
 

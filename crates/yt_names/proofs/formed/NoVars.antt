@@ -5,8 +5,9 @@ use Rattle.yt_graph.specs.declared.operator.OpHead.{OpHead}
 use Rattle.yt_graph.specs.AstPicture.{AstExprTree, number, name, minus, negation, two_sides, paren, call_of, AstExprsTree, no_values, more_values, AstStmtTree, let_local, assign, send_on, when_only, when_else, turns, AstBlockTree, no_stmts, more_stmts}
 use Rattle.yt_graph.specs.Picture.{ExprTree, ExprsTree}
 use Rattle.yt_graph.specs.WellFormed.{expr_uses_var, exprs_use_var, stmt_uses_var, block_uses_var}
-use Rattle.yt_names.specs.Names.{first_of, op_names}
-use Rattle.yt_names.specs.Handlers.{left_after, left_after_block}
+use Rattle.yt_table.specs.Tables.{first_of}
+use Rattle.yt_name_faults.specs.Names.{op_names}
+use Rattle.yt_name_faults.specs.Handlers.{left_after, left_after_block}
 use Rattle.yt_names.specs.Resolved.{NamedPlace, Scope, local_at, meant_by, read_of, call_head, call_at, resolved_expr, resolved_exprs, locals_after, set_of, resolved_stmt, resolved_block}
 use Rattle.yt_names.proofs.formed.Lists.{neither_holds}
 

@@ -9,7 +9,7 @@ use Rattle.yt_graph.specs.declared.graph as graph
 use Rattle.yt_graph.specs.AstPicture.{ItemTree, input, output, resource, process}
 use Rattle.yt_graph.specs.Picture.{PortTree}
 use Rattle.yt_graph.specs.WellFormed.{AreDifferent, block_uses_var}
-use Rattle.yt_names.specs.Names.{first_of}
+use Rattle.yt_table.specs.Tables.{first_of}
 use Rattle.yt_names.specs.Resolved.{place_of, number_among, resources_of, own_resource, own_resources_of, resolved_groups, resource_name, var_of, vars_of}
 use Rattle.yt_names.proofs.FineLemmas.{place_stays, found_within}
 use Rattle.yt_names.proofs.formed.Lists.{both_fail, neither_holds, none_append, found, any_right, any_second}

@@ -3,7 +3,7 @@ use Rattle.std.proofs.Common.{◌≡◌, ℕ, zero, suc, ◌+◌, ◌<◌, ◌�
 use Rattle.std.specs.List.{list_any}
 use Rattle.std.specs.Option.{unwrap_or}
 use Rattle.yt_graph.specs.WellFormed.{IsWithin}
-use Rattle.yt_names.specs.Names.{first_of}
+use Rattle.yt_table.specs.Tables.{first_of}
 use Rattle.yt_names.specs.Resolved.{place_of, number_of, number_among}
 use Rattle.yt_names.proofs.FineLemmas.{place_stays, found_within}
 use Rattle.yt_names.proofs.formed.Lists.{found}

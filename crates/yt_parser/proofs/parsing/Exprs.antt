@@ -7,9 +7,9 @@ use Rattle.yt_graph.specs.AstPicture.{AstExprTree, two_sides, more_values, ast_e
 use Rattle.yt_graph.specs.AstWellFormed.{ast_expr_depth, ast_exprs_depth}
 use Rattle.yt_parser.specs.declared.cursor.Stop.{Stop}
 use Rattle.yt_parser.specs.declared.cursor.Stop.TheVariants.{Syntax, Memory}
-use Rattle.yt_parser.specs.Lexemes.{Tok}
-use Rattle.yt_parser.specs.Grammar.{right_rank}
-use Rattle.yt_parser.specs.Reading.{Reading, got, stuck, Reader, and_then, made, behind, op_at, chain, turns_at, exprs_of, rank_reader, expr_reader}
+use Rattle.yt_grammar.specs.Lexemes.{Tok}
+use Rattle.yt_grammar.specs.Grammar.{right_rank}
+use Rattle.yt_grammar.specs.Reading.{Reading, got, stuck, Reader, and_then, made, behind, op_at, chain, turns_at, exprs_of, rank_reader, expr_reader}
 use Rattle.yt_parser.specs.Results.{IsStop}
 
 -- an expression of some levels

@@ -4,8 +4,8 @@ use Rattle.std.proofs.lemmas.Bool.Decides.{nat_tests}
 use Rattle.yt_graph.specs.AstPicture.{ItemTree}
 use Rattle.yt_parser.specs.declared.cursor.Stop.{Stop}
 use Rattle.yt_parser.specs.declared.cursor.Stop.TheVariants.{Syntax, Memory}
-use Rattle.yt_parser.specs.Lexemes.{Tok}
-use Rattle.yt_parser.specs.Reading.{got, stuck, many, at_item, item_reader, graph_reader}
+use Rattle.yt_grammar.specs.Lexemes.{Tok}
+use Rattle.yt_grammar.specs.Reading.{got, stuck, many, at_item, item_reader, graph_reader}
 use Rattle.yt_parser.specs.Results.{IsStop}
 
 -- nothing comes behind the parts

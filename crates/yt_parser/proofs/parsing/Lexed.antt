@@ -13,7 +13,7 @@ use Rattle.yt_lexer.specs.declared.token.Token.{Token}
 use Rattle.yt_lexer.specs.declared.token.TokenKind.{TokenKind}
 use Rattle.yt_lexer.specs.declared.token.TokenKind.TheVariants.{Word, Key, Number, Symbol}
 use Rattle.yt_lexer.specs.declared.token.LexFault.TheVariants.{BadByte, LongName}
-use Rattle.yt_parser.specs.Lexemes.{lexeme_of, digits, IsLexeme, AreTokens, toks_of}
+use Rattle.yt_grammar.specs.Lexemes.{lexeme_of, digits, IsLexeme, AreTokens, toks_of}
 use Rattle.yt_parser.specs.Signs.{IsSpan, AreSpans}
 
 -- a token of so many bytes in front of a text lies in it and can be a graph's

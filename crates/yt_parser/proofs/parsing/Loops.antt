@@ -2,9 +2,9 @@
 use Rattle.std.proofs.Common.{ℕ, zero, suc, ◌≡◌, ◌≤◌, ◌<◌, Bool, true, false, List, [], ◌∷◌, ◌++◌, length, map, refl, ap, subst, sym, ◌∙◌, append-nil, append_assoc, arith}
 use Rattle.yt_parser.specs.declared.cursor.Stop.{Stop}
 use Rattle.yt_parser.specs.declared.cursor.Stop.TheVariants.{Syntax, Memory}
-use Rattle.yt_parser.specs.declared.sign.Mark.TheVariants.{Comma}
-use Rattle.yt_parser.specs.Lexemes.{Tok}
-use Rattle.yt_parser.specs.Reading.{Reading, got, stuck, Reader, made, at_mark, behind_mark, many_of, many, one_or_more}
+use Rattle.yt_grammar.specs.declared.sign.Mark.TheVariants.{Comma}
+use Rattle.yt_grammar.specs.Lexemes.{Tok}
+use Rattle.yt_grammar.specs.Reading.{Reading, got, stuck, Reader, made, at_mark, behind_mark, many_of, many, one_or_more}
 use Rattle.yt_parser.specs.Results.{IsStop}
 
 -- the whole reading is that of what is left, with the things so far in front

@@ -3,12 +3,12 @@ use Rattle.std.proofs.Common.{ℕ, ◌≡◌, List, [], ◌∷◌, length, None,
 use Rattle.yt_lexer.specs.Places.{place_of}
 use Rattle.yt_graph.specs.declared.place.Place.{Place}
 use Rattle.yt_graph.specs.AstPicture.{ItemTree}
-use Rattle.yt_parser.specs.Lexemes.{Tok, AreTokens}
-use Rattle.yt_parser.specs.Grammar.{Spells}
-use Rattle.yt_parser.specs.Reading.{got, stuck, graph_reader}
+use Rattle.yt_grammar.specs.Lexemes.{Tok, AreTokens}
+use Rattle.yt_grammar.specs.Grammar.{Spells}
+use Rattle.yt_grammar.specs.Reading.{got, stuck, graph_reader}
 use Rattle.yt_parser.specs.Signs.{place_next}
 use Rattle.yt_parser.specs.Parses.{place_before, IsSyntaxFault}
-use Rattle.yt_parser.proofs.reading.Graph.{graph_read, graph_only, graph_stuck}
+use Rattle.yt_grammar.proofs.Lemmas.{graph_read, graph_only, graph_stuck}
 
 -- what is read is spelled
 pub read-spelled : (s : List Tok) (items : List ItemTree) (rest : List Tok) → AreTokens s → graph_reader s ≡ got items rest → Spells s items

@@ -4,8 +4,8 @@ use Rattle.yt_graph.specs.declared.ast_stmt.AstStmt.{AstStmt}
 use Rattle.yt_graph.specs.AstPicture.{more_stmts, ast_stmt_tree, ast_block_tree}
 use Rattle.yt_parser.specs.declared.cursor.Stop.{Stop}
 use Rattle.yt_parser.specs.declared.cursor.Stop.TheVariants.{Syntax, Memory}
-use Rattle.yt_parser.specs.Lexemes.{Tok}
-use Rattle.yt_parser.specs.Reading.{Reading, made, in_braces, many, at_stmt, stmt_reader, block_of, block_reader}
+use Rattle.yt_grammar.specs.Lexemes.{Tok}
+use Rattle.yt_grammar.specs.Reading.{Reading, made, in_braces, many, at_stmt, stmt_reader, block_of, block_reader}
 use Rattle.yt_parser.specs.Results.{IsStop}
 
 -- a block in which some may stand

@@ -1,65 +1,123 @@
-use Rattle.std.proofs.Common.{◌≡◌, Err, refl, ap, subst, ◌∙◌}
-use Rattle.yt_io.specs.Faults.{Rose}
-use Rattle.yt_io.specs.Sink.{AddsFront}
-use Rattle.yartos.specs.declared.status.Status.TheVariants.{Usage, NotYet}
-use Rattle.yartos.specs.Answer.{usage_line}
-use Rattle.yartos.specs.Words.{judges, later, misuse, request_of, texts}
-use Rattle.std.specs.Prelude.{codes}
-use Rattle.yartos.proofs.TopLemmas.{count_for, due_for, is_called_for, no_read_fault, no_write_fault, or_no_memory, unread_for, verdict_in_files}
+use Rattle.std.proofs.Common.{◌≡◌, ℕ, List, refl, ap, subst, ◌∙◌}
+use Rattle.yt_answer.specs.declared.verdict.Verdict.TheVariants.{Usage, NotYet, Long}
+use Rattle.yt_answer.specs.Code.{status_of}
+use Rattle.yt_answer.specs.Due.{not_yet_line}
+use Rattle.yt_io.specs.Sink.{AddsFront, add}
+use Rattle.yartos.specs.Answer.{IfVerdict}
+use Rattle.yartos.specs.Causes.{usage_line}
+use Rattle.yartos.specs.FileCauses.{long_line}
+use Rattle.yartos.specs.Reads.{IsFirstLong}
+use Rattle.yartos.specs.Words.{command_found, files_of, judges, later, misuse, request_of, texts}
+use Rattle.yartos.proofs.Commands.{first_long}
+use Rattle.yartos.proofs.Requests.{due_is_called}
+use Rattle.yartos.proofs.Told.{due_for, no_write_fault, or_no_memory, told_whole}
 use Rattle.yartos.proofs.top.yartos.Goals as goal
 
-pub answer_files-requires : goal.answer_files-requires
-answer_files-requires g c = count_for (texts c.deref.result.now) (texts c.in-Judges.names.now) c.in-Judges.command c.in-Judges.ensures
-
-pub tell-requires-in-Ok : goal.tell-requires-in-Ok
-tell-requires-in-Ok g c =
-    record { verdict = verdict_in_files (g.S.Shelf.held c.args.shelf.now) c.in-Judges.command (texts c.in-Judges.names.now) c.in-Ok.answer.status c.in-Ok.answer.text c.in-Ok.ensures.due }
+pub returns-in-Misuse-clause-verdict : goal.returns-in-Misuse-clause-verdict
+returns-in-Misuse-clause-verdict g c =
+    let told = g.S.Shelf.held c.args.shelf.now in
+    let words = texts c.args.words.now.items in
+    let form : misuse ≡ request_of words = c.in-Misuse.ensures ∙ ap (λ ws. request_of (texts ws)) c.deref.ensures.value in
+    let due = due_for told misuse (request_of words) Usage usage_line form (record { cause = tt; verdict = refl; told = refl }) in
+    told_whole told words c.tell.result Usage usage_line (λ (t : List ℕ). g.K.Sink.written c.tell.new.out ≡ add (g.K.Sink.written c.args.out.now) t) due c.tell.ensures.told c.tell.ensures.whole
 
 pub returns-in-Misuse-clause-front : goal.returns-in-Misuse-clause-front
 returns-in-Misuse-clause-front g c = λ e.
     let told = g.S.Shelf.held c.args.shelf.now in
     let words = texts c.args.words.now.items in
     let form : misuse ≡ request_of words = c.in-Misuse.ensures ∙ ap (λ ws. request_of (texts ws)) c.deref.ensures.value in
-    (Usage, usage_line, due_for told misuse (request_of words) Usage usage_line form (refl, refl), c.tell.ensures.front e)
+    let due = due_for told misuse (request_of words) Usage usage_line form (record { cause = tt; verdict = refl; told = refl }) in
+    (status_of Usage, usage_line, record { verdict = Usage; is = refl; due = due }, c.tell.ensures.front e)
+
+pub returns-in-Later-clause-verdict : goal.returns-in-Later-clause-verdict
+returns-in-Later-clause-verdict g c =
+    let told = g.S.Shelf.held c.args.shelf.now in
+    let words = texts c.args.words.now.items in
+    let form : later ≡ request_of words = c.in-Later.ensures ∙ ap (λ ws. request_of (texts ws)) c.deref.ensures.value in
+    let due = due_for told later (request_of words) NotYet not_yet_line form (record { cause = tt; verdict = refl; told = refl }) in
+    told_whole told words c.tell-in-Later.result NotYet not_yet_line (λ (t : List ℕ). g.K.Sink.written c.tell-in-Later.new.out ≡ add (g.K.Sink.written c.args.out.now) t) due c.tell-in-Later.ensures.told c.tell-in-Later.ensures.whole
 
 pub returns-in-Later-clause-front : goal.returns-in-Later-clause-front
 returns-in-Later-clause-front g c = λ e.
     let told = g.S.Shelf.held c.args.shelf.now in
     let words = texts c.args.words.now.items in
     let form : later ≡ request_of words = c.in-Later.ensures ∙ ap (λ ws. request_of (texts ws)) c.deref.ensures.value in
-    (NotYet, codes "notyet\n", due_for told later (request_of words) NotYet (codes "notyet\n") form (refl, refl), c.tell-in-Later.ensures.front e)
+    let due = due_for told later (request_of words) NotYet not_yet_line form (record { cause = tt; verdict = refl; told = refl }) in
+    (status_of NotYet, not_yet_line, record { verdict = NotYet; is = refl; due = due }, c.tell-in-Later.ensures.front e)
+
+pub returns-in-Ok-clause-verdict : goal.returns-in-Ok-clause-verdict
+returns-in-Ok-clause-verdict g c =
+    let told = g.S.Shelf.held c.args.shelf.now in
+    let words = texts c.args.words.now.items in
+    let request = judges (command_found c.in-Judges.command) in
+    let form : request ≡ request_of words = c.in-Judges.ensures ∙ ap (λ ws. request_of (texts ws)) c.deref.ensures.value in
+    let verdict = c.in-Ok.answer.verdict in
+    let text = c.in-Ok.answer.text in
+    let result = c.tell-in-Ok.result in
+    let IsWhole = λ (t : List ℕ). g.K.Sink.written c.tell-in-Ok.new.out ≡ add (g.K.Sink.written c.args.out.now) t in
+    let whole = subst (λ t. IfVerdict result (IsWhole t)) c.as_slice.ensures c.tell-in-Ok.ensures.whole in
+    told_whole told words result verdict text IsWhole (due_for told request (request_of words) verdict text form c.in-Ok.ensures.due) c.tell-in-Ok.ensures.told whole
 
 pub returns-in-Ok-clause-front : goal.returns-in-Ok-clause-front
 returns-in-Ok-clause-front g c = λ e.
     let told = g.S.Shelf.held c.args.shelf.now in
     let words = texts c.args.words.now.items in
-    let request = judges c.in-Judges.command (texts c.in-Judges.names.now) in
+    let request = judges (command_found c.in-Judges.command) in
     let form : request ≡ request_of words = c.in-Judges.ensures ∙ ap (λ ws. request_of (texts ws)) c.deref.ensures.value in
-    let status = c.in-Ok.answer.status in
+    let verdict = c.in-Ok.answer.verdict in
     let text = c.in-Ok.answer.text in
-    let front = subst (λ x. AddsFront (g.K.Sink.written c.args.out.now) (g.K.Sink.written c.tell-in-Ok.new.out) x) c.as_slice.ensures (c.tell-in-Ok.ensures.front e) in
-    (status, text, due_for told request (request_of words) status text form c.in-Ok.ensures.due, front)
+    let front = subst (λ t. AddsFront (g.K.Sink.written c.args.out.now) (g.K.Sink.written c.tell-in-Ok.new.out) t) c.as_slice.ensures (c.tell-in-Ok.ensures.front e) in
+    (status_of verdict, text, record { verdict = verdict; is = refl; due = due_for told request (request_of words) verdict text form c.in-Ok.ensures.due }, front)
 
 pub returns-in-Ok-clause-complete : goal.returns-in-Ok-clause-complete
 returns-in-Ok-clause-complete g c = λ held due tells calls shelf sink.
     let told = g.S.Shelf.held c.args.shelf.now in
     let words = texts c.args.words.now.items in
-    let request = judges c.in-Judges.command (texts c.in-Judges.names.now) in
+    let request = judges (command_found c.in-Judges.command) in
     let form : request ≡ request_of words = c.in-Judges.ensures ∙ ap (λ ws. request_of (texts ws)) c.deref.ensures.value in
-    let status = c.in-Ok.answer.status in
+    let verdict = c.in-Ok.answer.verdict in
     let text = c.in-Ok.answer.text in
     let result = c.tell-in-Ok.result in
-    let kept : result ≡ status = no_write_fault result status (g.K.Sink.faults c.args.out.now) (g.K.Sink.faults c.tell-in-Ok.new.out) c.tell-in-Ok.ensures.told c.tell-in-Ok.ensures.failed sink in
-    let is = due_for told request (request_of words) status text form c.in-Ok.ensures.due in
-    or_no_memory result due (kept ∙ is_called_for told held (request_of words) status due text tells is calls)
+    let kept = no_write_fault result (status_of verdict) (g.K.Sink.faults c.args.out.now) (g.K.Sink.faults c.tell-in-Ok.new.out) c.tell-in-Ok.ensures.told c.tell-in-Ok.ensures.failed sink in
+    let is = due_for told request (request_of words) verdict text form c.in-Ok.ensures.due in
+    or_no_memory result due (kept ∙ due_is_called told held words verdict text due tells is calls)
 
-pub returns-in-Err-NotRead-clause-complete : goal.returns-in-Err-NotRead-clause-complete
-returns-in-Err-NotRead-clause-complete g c = λ held due tells calls shelf sink.
+pub returns-in-Err-TooLong-clause-verdict : goal.returns-in-Err-TooLong-clause-verdict
+returns-in-Err-TooLong-clause-verdict g c =
     let told = g.S.Shelf.held c.args.shelf.now in
     let words = texts c.args.words.now.items in
-    let request = judges c.in-Judges.command (texts c.in-Judges.names.now) in
+    let request = judges (command_found c.in-Judges.command) in
     let form : request ≡ request_of words = c.in-Judges.ensures ∙ ap (λ ws. request_of (texts ws)) c.deref.ensures.value in
-    let old = g.S.Shelf.faults c.args.shelf.now in
-    let new = g.S.Shelf.faults c.answer_files.new.shelf in
-    let failed = unread_for told request (request_of words) (Rose old new) form (c.in-Err-NotRead.ensures.not_read (ap Err c.in-Err-NotRead.field-0-is)) in
-    absurd (no_read_fault told held (request_of words) due old new tells calls failed shelf)
+    let number = c.in-Err-TooLong.number in
+    let first : IsFirstLong told (files_of (command_found c.in-Judges.command)) number = rw c.in-Err-TooLong.field-0-is at c.in-Err-TooLong.ensures.long in
+    let due = due_for told request (request_of words) Long (long_line number) form (first_long told (command_found c.in-Judges.command) number first) in
+    let result = c.tell-in-Err-TooLong.result in
+    let IsWhole = λ (t : List ℕ). g.K.Sink.written c.tell-in-Err-TooLong.new.out ≡ add (g.K.Sink.written c.args.out.now) t in
+    let whole = subst (λ t. IfVerdict result (IsWhole t)) (c.bytes.ensures.value ∙ c.long_line.ensures) c.tell-in-Err-TooLong.ensures.whole in
+    told_whole told words result Long (long_line number) IsWhole due c.tell-in-Err-TooLong.ensures.told whole
+
+pub returns-in-Err-TooLong-clause-front : goal.returns-in-Err-TooLong-clause-front
+returns-in-Err-TooLong-clause-front g c = λ e.
+    let told = g.S.Shelf.held c.args.shelf.now in
+    let words = texts c.args.words.now.items in
+    let request = judges (command_found c.in-Judges.command) in
+    let form : request ≡ request_of words = c.in-Judges.ensures ∙ ap (λ ws. request_of (texts ws)) c.deref.ensures.value in
+    let number = c.in-Err-TooLong.number in
+    let first : IsFirstLong told (files_of (command_found c.in-Judges.command)) number = rw c.in-Err-TooLong.field-0-is at c.in-Err-TooLong.ensures.long in
+    let due = due_for told request (request_of words) Long (long_line number) form (first_long told (command_found c.in-Judges.command) number first) in
+    let result = c.tell-in-Err-TooLong.result in
+    let front = subst (λ t. AddsFront (g.K.Sink.written c.args.out.now) (g.K.Sink.written c.tell-in-Err-TooLong.new.out) t) (c.bytes.ensures.value ∙ c.long_line.ensures) (c.tell-in-Err-TooLong.ensures.front e) in
+    (status_of Long, long_line number, record { verdict = Long; is = refl; due = due }, front)
+
+pub returns-in-Err-TooLong-clause-complete : goal.returns-in-Err-TooLong-clause-complete
+returns-in-Err-TooLong-clause-complete g c = λ held status tells calls shelf sink.
+    let told = g.S.Shelf.held c.args.shelf.now in
+    let words = texts c.args.words.now.items in
+    let request = judges (command_found c.in-Judges.command) in
+    let form : request ≡ request_of words = c.in-Judges.ensures ∙ ap (λ ws. request_of (texts ws)) c.deref.ensures.value in
+    let number = c.in-Err-TooLong.number in
+    let first : IsFirstLong told (files_of (command_found c.in-Judges.command)) number = rw c.in-Err-TooLong.field-0-is at c.in-Err-TooLong.ensures.long in
+    let due = due_for told request (request_of words) Long (long_line number) form (first_long told (command_found c.in-Judges.command) number first) in
+    let result = c.tell-in-Err-TooLong.result in
+    let kept = no_write_fault result (status_of Long) (g.K.Sink.faults c.args.out.now) (g.K.Sink.faults c.tell-in-Err-TooLong.new.out) c.tell-in-Err-TooLong.ensures.told c.tell-in-Err-TooLong.ensures.failed sink in
+    or_no_memory result status (kept ∙ due_is_called told held words Long (long_line number) status tells due calls)

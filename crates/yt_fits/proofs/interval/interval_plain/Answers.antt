@@ -1,5 +1,5 @@
 use Rattle.std.proofs.Common.{refl, arith}
-use Rattle.yt_set.proofs.Hyperperiods.{periods_of}
+use Rattle.yt_set.proofs.Lemmas.{periods_of}
 use Rattle.yt_fits.proofs.IntervalLemmas.{fits_from_room, room_beyond, room_between, room_more}
 use Rattle.yt_fits.proofs.interval.interval_plain.Goals as goal
 

@@ -1,6 +1,6 @@
 use Rattle.std.proofs.Common.{ap, ◌∙◌}
 use Rattle.yt_set.specs.Tasks.{lcm}
-use Rattle.yt_set.proofs.Multiples.{lcm_by}
+use Rattle.yt_set.proofs.Lemmas.{lcm_by}
 use Rattle.yt_fits.proofs.MultipleLemmas.{divisor_some}
 use Rattle.yt_fits.proofs.multiple.lcm.Goals as goal
 

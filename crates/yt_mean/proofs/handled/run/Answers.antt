@@ -1,7 +1,7 @@
 use Rattle.std.proofs.Common.{arith}
 use Rattle.yt_graph.specs.Picture.{block_tree}
 use Rattle.yt_graph.specs.Meaning.{start}
-use Rattle.yt_graph.proofs.Within.{block_ticks}
+use Rattle.yt_graph.proofs.Lemmas.{block_ticks}
 use Rattle.yt_mean.proofs.handled.run.Goals as goal
 
 pub spend-requires : goal.spend-requires

@@ -1,6 +1,6 @@
 use Rattle.std.proofs.Common.{◌≡◌, ◌++◌, drop}
 use Rattle.std.specs.List.{flat_map}
-use Rattle.yt_names.specs.Parts.{trees}
+use Rattle.yt_name_faults.specs.Parts.{trees}
 use Rattle.yt_names.specs.Resolved.{own_resources_of}
 use Rattle.yt_names.proofs.heads.add_own_resources.Given as goal
 

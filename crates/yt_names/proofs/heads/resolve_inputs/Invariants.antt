@@ -1,5 +1,5 @@
 use Rattle.std.proofs.Common.{◌≡◌, ◌++◌, drop}
-use Rattle.yt_names.specs.Parts.{trees}
+use Rattle.yt_name_faults.specs.Parts.{trees}
 use Rattle.yt_names.specs.Resolved.{resolved_inputs}
 use Rattle.yt_names.proofs.heads.resolve_inputs.Given as goal
 

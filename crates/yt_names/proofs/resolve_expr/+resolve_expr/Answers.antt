@@ -4,7 +4,7 @@ use Rattle.yt_graph.specs.AstPicture.{ast_expr_tree, ast_exprs_tree}
 use Rattle.yt_graph.specs.AstParts.{ast_exprs_weight}
 use Rattle.yt_names.specs.Resolved.{resolved_expr, resolved_exprs}
 use Rattle.yt_names.proofs.BuildLemmas.{exprs_next, exprs_done}
-use Rattle.yt_names.proofs.TreeLemmas.{exprs_cut}
+use Rattle.yt_name_faults.proofs.Lemmas.{exprs_cut}
 use Rattle.yt_names.proofs.resolve_expr.+resolve_expr.Goals as goal
 
 pub resolve_exprs-loop-e-preserved : goal.resolve_exprs-loop-e-preserved

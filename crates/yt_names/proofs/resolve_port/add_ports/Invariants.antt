@@ -1,7 +1,7 @@
 use Rattle.std.proofs.Common.{◌≡◌, ◌++◌, map, drop}
 use Rattle.yt_graph.specs.AstPicture.{port_decl_tree}
 use Rattle.yt_graph.specs.Picture.{port_tree}
-use Rattle.yt_names.specs.Parts.{trees}
+use Rattle.yt_name_faults.specs.Parts.{trees}
 use Rattle.yt_names.specs.Resolved.{resolved_port}
 use Rattle.yt_names.proofs.resolve_port.add_ports.Given as goal
 

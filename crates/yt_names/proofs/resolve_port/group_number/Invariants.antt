@@ -1,5 +1,5 @@
 use Rattle.std.proofs.Common.{◌≡◌, ◌+◌, drop}
-use Rattle.yt_names.specs.Names.{first_of}
+use Rattle.yt_table.specs.Tables.{first_of}
 use Rattle.yt_names.proofs.resolve_port.group_number.Given as goal
 
 abbrev pub invariant-loop-place : goal.invariant-loop-place

@@ -1,6 +1,6 @@
 use Rattle.std.proofs.Common.{◌≡◌, ◌+◌, map, drop}
 use Rattle.yt_graph.specs.declared.graph.Input.{Input}
-use Rattle.yt_names.specs.Names.{first_of}
+use Rattle.yt_table.specs.Tables.{first_of}
 use Rattle.yt_names.proofs.resolve_port.input_number.Given as goal
 
 abbrev pub invariant-loop-place : goal.invariant-loop-place

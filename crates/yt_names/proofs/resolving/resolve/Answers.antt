@@ -3,11 +3,11 @@ use Rattle.yt_graph.specs.declared.ast.Item.{Item}
 use Rattle.yt_graph.specs.declared.operator.OpHead.{OpHead}
 use Rattle.yt_graph.specs.AstPicture.{ast_tree}
 use Rattle.yt_graph.specs.WellFormed.{IsWellFormed}
-use Rattle.yt_names.specs.First.{first_fault}
-use Rattle.yt_names.specs.Faults.{name_faults}
-use Rattle.yt_names.specs.Parts.{trees}
+use Rattle.yt_name_faults.specs.First.{first_fault}
+use Rattle.yt_name_faults.specs.Faults.{name_faults}
+use Rattle.yt_name_faults.specs.Parts.{trees}
 use Rattle.yt_names.specs.Resolved.{resolved}
-use Rattle.yt_names.proofs.FirstLemmas.{no_fault}
+use Rattle.yt_name_faults.proofs.Lemmas.{no_fault}
 use Rattle.yt_names.proofs.formed.Graph.{resolved_is_formed}
 use Rattle.yt_names.proofs.resolving.resolve.Goals as goal
 

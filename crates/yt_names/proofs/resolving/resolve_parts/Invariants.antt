@@ -1,6 +1,6 @@
 use Rattle.std.proofs.Common.{◌≡◌, ◌++◌, map, drop, length}
 use Rattle.yt_graph.specs.Picture.{port_tree}
-use Rattle.yt_names.specs.Parts.{trees}
+use Rattle.yt_name_faults.specs.Parts.{trees}
 use Rattle.yt_names.specs.Resolved.{resolved_vars, resolved_ports}
 use Rattle.yt_names.proofs.resolving.resolve_parts.Given as goal
 

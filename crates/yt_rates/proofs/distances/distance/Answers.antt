@@ -1,7 +1,7 @@
 use Rattle.std.proofs.Common.{◌-◌, length, ◌∙◌, arith}
 use Rattle.std.proofs.lemmas.List.{length-map}
 use Rattle.yt_graph.specs.Picture.{graph_tree, port_tree}
-use Rattle.yt_cost.proofs.Compiled.{port_is}
+use Rattle.yt_cost.proofs.Lemmas.{port_is}
 use Rattle.yt_rates.proofs.Chains.{source_there, walked}
 use Rattle.yt_rates.proofs.distances.distance.Goals as goal
 

@@ -1,7 +1,7 @@
 use Rattle.std.proofs.Common.{◌≡◌, length, arith}
 use Rattle.std.proofs.lemmas.List.{length-map}
 use Rattle.yt_graph.specs.Picture.{graph_tree, port_tree}
-use Rattle.yt_cost.proofs.Compiled.{port_is, fine_port}
+use Rattle.yt_cost.proofs.Lemmas.{port_is, fine_port}
 use Rattle.yt_rates.specs.Rates.{distance_of}
 use Rattle.yt_rates.proofs.Lists.{mapped_more, mapped_all}
 use Rattle.yt_rates.proofs.distances.distances.Goals as goal

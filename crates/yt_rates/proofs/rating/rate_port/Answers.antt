@@ -3,7 +3,7 @@ use Rattle.std.specs.Prelude.{slice_get}
 use Rattle.std.proofs.lemmas.Option.{same_Some}
 use Rattle.std.proofs.lemmas.Result.{err_from_is_err_and}
 use Rattle.yt_graph.specs.Picture.{graph_tree, port_tree}
-use Rattle.yt_cost.proofs.Compiled.{port_is, fine_port}
+use Rattle.yt_cost.proofs.Lemmas.{port_is, fine_port}
 use Rattle.yt_rates.specs.declared.fault.RateFault.TheVariants.{Over}
 use Rattle.yt_rates.specs.Faults.{port_fault}
 use Rattle.yt_rates.specs.Tables.{IsRated}

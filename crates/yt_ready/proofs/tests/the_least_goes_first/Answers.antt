@@ -1,6 +1,6 @@
 use Rattle.std.proofs.Common.{ap, arith}
 use Rattle.yt_ready.specs.declared.entry.Entry.{Entry}
-use Rattle.yt_ready.proofs.Falls.{fresh_after, none_fresh}
+use Rattle.yt_order.proofs.Lemmas.{fresh_after, none_fresh}
 use Rattle.yt_ready.proofs.tests.the_least_goes_first.Goals as goal
 
 pub push-requires-2-clause-fresh : goal.push-requires-2-clause-fresh

@@ -1,7 +1,10 @@
 use Rattle.std.proofs.Common.{◌≤◌, sym, inl, inr, arith}
 use Rattle.std.proofs.lemmas.Grind.{common_steps}
 use Rattle.std.specs.Vec.{vec_capacity}
-use Rattle.yt_chan.proofs.HeadList.{first_popped, taken_popped, popped_falls, popped_apart}
+use Rattle.yt_order.proofs.Lemmas.{popped_falls, taken_popped}
+use Rattle.yt_chan.specs.Inside.Heads.{comes_before}
+use Rattle.yt_chan.proofs.HeadOrder.{heads_are_ordered}
+use Rattle.yt_chan.proofs.HeadList.{first_popped, popped_apart}
 use Rattle.yt_chan.proofs.heads.Heads.take_due.Goals as goal
 
 pub returns-in_err-head-clause-due : goal.returns-in_err-head-clause-due
@@ -13,7 +16,7 @@ returns-then-head-now-clause-due c = inr (c.in_ok-head.head, c.in_ok-head.ensure
 pub invariant_of-self : goal.invariant_of-self
 invariant_of-self c =
     let i = c.self.inside.heads in
-    (popped_falls i.items c.pop.new.self.items c.pop.result c.pop.ensures.items c.self.invariant.0, popped_apart i.items c.pop.new.self.items c.pop.result c.pop.ensures.items c.self.invariant.1, let k : 82 ≤ vec_capacity c.pop.new.self = grind (arith, common_steps) in k)
+    (popped_falls comes_before i.items c.pop.new.self.items c.pop.result c.pop.ensures.items c.self.invariant.0, popped_apart i.items c.pop.new.self.items c.pop.result c.pop.ensures.items c.self.invariant.1, let k : 82 ≤ vec_capacity c.pop.new.self = grind (arith, common_steps) in k)
 
 pub returns-clause-due : goal.returns-clause-due
 returns-clause-due c =
@@ -22,4 +25,4 @@ returns-clause-due c =
 
 pub returns-clause-taken : goal.returns-clause-taken
 returns-clause-taken c =
-    rw (← c.self.view_is) (taken_popped c.self.inside.heads.items c.pop.new.self.items c.pop.result _ c.self.invariant.0 c.pop.ensures.items (λ e. e))
+    rw (← c.self.view_is) (taken_popped heads_are_ordered c.self.inside.heads.items c.pop.new.self.items c.pop.result _ c.self.invariant.0 c.pop.ensures.items (λ e. e))

@@ -2,7 +2,8 @@ use Rattle.std.proofs.Common.{◌≡◌, ℕ, ◌+◌, ◌-◌, ◌≤◌, ◌^�
 use Rattle.yt_log.specs.declared.job.Job.{Job}
 use Rattle.yt_ready.specs.declared.entry.Entry.{Entry}
 use Rattle.yt_ready.specs.Order.{IsLeast}
-use Rattle.yt_ready.specs.Waiting.{HasOneMore, Waiting}
+use Rattle.yt_order.specs.Falling.{HasOneMore}
+use Rattle.yt_ready.specs.Waiting.{Waiting}
 use Rattle.yt_exec.specs.Moments.{Moment, after_tick, IsSound}
 use Rattle.std.specs.List.{Contains}
 use Rattle.yt_exec.proofs.Readings.{floor_read, floors_long, floor_small, none_in, positive}

@@ -1,4 +1,4 @@
-use Rattle.std.proofs.Common.{◌≡◌, ℕ, ◌+◌, ◌-◌, ◌<◌, ◌≤◌, slice_index, List, true, false, Option, Some, None, length, refl, sym, ap, subst, arith}
+use Rattle.std.proofs.Common.{◌≡◌, ℕ, ◌+◌, ◌-◌, ◌<◌, ◌≤◌, slice_index, List, Option, length, refl, sym, ap, subst, arith}
 use Rattle.yt_log.specs.declared.job.Segment.{Segment}
 use Rattle.yt_log.specs.declared.judge.miss.Miss.{Miss}
 use Rattle.yt_log.specs.declared.plan.PlanItem.{PlanItem}
@@ -7,11 +7,8 @@ use Rattle.yt_log.specs.Heads.{item_at}
 use Rattle.yt_log.proofs.Places.{has_place}
 use Rattle.yt_log.proofs.Plans.{good_item}
 use Rattle.yt_log.proofs.Counting.{ordered_segments}
-use Rattle.yt_log.proofs.Judged.{AreAhead, ahead_first, ahead_more, judged_more, no_miss, first_of, a_miss, keeps_where_no_miss, no_miss_where_kept, all_judged}
+use Rattle.yt_log.proofs.Judged.{ahead_first, ahead_more, judged_more, all_judged, told_due, told_first, told_keeps, told_none}
 use Rattle.yt_log.proofs.judge.miss.first_miss.Goals as goal
-
-true_ne_false : true ≡ false → ⊥
-true_ne_false e = cc
 
 pub loop-item-init : goal.loop-item-init
 loop-item-init c = record {
@@ -61,28 +58,18 @@ loop-item-preserved c =
       ahead = ahead_more _ _ c.requires.legal _ c.loop-item.item-index _ _ (omega (arith, long, c.loop-item-test.true)) c.loop-item.invariant.ahead (subst P at c.judge.ensures.passes);
     }
 
-pub returns-in-Some-clause-first : goal.returns-in-Some-clause-first
-returns-in-Some-clause-first c =
-    first_of _ _ _ _ _ (all_judged _ _ _ _ _ _ c.loop-item.first (Some c.in-Some.miss) c.items-item-items.ensures c.loop-item.auto.item-index-end c.loop-item-test.false c.in-Some.is c.loop-item.invariant.judged)
+pub returns-clause-first : goal.returns-clause-first
+returns-clause-first c =
+    told_first _ _ _ _ c.loop-item.first (all_judged _ _ _ _ _ _ c.loop-item.first c.loop-item.first c.items-item-items.ensures c.loop-item.auto.item-index-end c.loop-item-test.false refl c.loop-item.invariant.judged)
 
-pub returns-in-Some-clause-none : goal.returns-in-Some-clause-none
-returns-in-Some-clause-none c =
-    let judged = all_judged _ _ _ _ _ _ c.loop-item.first (Some c.in-Some.miss) c.items-item-items.ensures c.loop-item.auto.item-index-end c.loop-item-test.false c.in-Some.is c.loop-item.invariant.judged in
-    let miss = a_miss _ _ _ _ _ (first_of _ _ _ _ _ judged) in
-    (λ e. absurd (true_ne_false e), λ none. absurd (none miss))
+pub returns-clause-due : goal.returns-clause-due
+returns-clause-due c =
+    told_due _ _ _ _ c.requires.legal c.loop-item.first (all_judged _ _ _ _ _ _ c.loop-item.first c.loop-item.first c.items-item-items.ensures c.loop-item.auto.item-index-end c.loop-item-test.false refl c.loop-item.invariant.judged)
 
-pub returns-in-Some-clause-keeps : goal.returns-in-Some-clause-keeps
-returns-in-Some-clause-keeps c = λ lawful.
-    let judged = all_judged _ _ _ _ _ _ c.loop-item.first (Some c.in-Some.miss) c.items-item-items.ensures c.loop-item.auto.item-index-end c.loop-item-test.false c.in-Some.is c.loop-item.invariant.judged in
-    let miss = a_miss _ _ _ _ _ (first_of _ _ _ _ _ judged) in
-    (λ e. absurd (true_ne_false e), λ keeps. absurd (no_miss_where_kept _ _ _ _ keeps miss))
+pub returns-clause-none : goal.returns-clause-none
+returns-clause-none c =
+    told_none _ _ _ _ c.loop-item.first (all_judged _ _ _ _ _ _ c.loop-item.first c.loop-item.first c.items-item-items.ensures c.loop-item.auto.item-index-end c.loop-item-test.false refl c.loop-item.invariant.judged)
 
-pub returns-in-None-clause-none : goal.returns-in-None-clause-none
-returns-in-None-clause-none c =
-    let judged = all_judged _ _ _ _ _ _ c.loop-item.first None c.items-item-items.ensures c.loop-item.auto.item-index-end c.loop-item-test.false c.in-None.is c.loop-item.invariant.judged in
-    (λ e. no_miss _ _ _ _ judged, λ none. refl)
-
-pub returns-in-None-clause-keeps : goal.returns-in-None-clause-keeps
-returns-in-None-clause-keeps c = λ lawful.
-    let judged = all_judged _ _ _ _ _ _ c.loop-item.first None c.items-item-items.ensures c.loop-item.auto.item-index-end c.loop-item-test.false c.in-None.is c.loop-item.invariant.judged in
-    (λ e. keeps_where_no_miss _ _ _ _ c.requires.legal lawful (no_miss _ _ _ _ judged), λ keeps. refl)
+pub returns-clause-keeps : goal.returns-clause-keeps
+returns-clause-keeps c =
+    told_keeps _ _ _ _ c.requires.legal c.loop-item.first (all_judged _ _ _ _ _ _ c.loop-item.first c.loop-item.first c.items-item-items.ensures c.loop-item.auto.item-index-end c.loop-item-test.false refl c.loop-item.invariant.judged)

@@ -1,6 +1,4 @@
-use Rattle.std.proofs.Common.{◌≡◌, ℕ, ◌-◌, ◌<◌, ◌≤◌, length, slice_index}
-use Rattle.yt_log.specs.Counts.{AreJudged, segment_at}
-use Rattle.yt_log.specs.Heads.{item_at}
+use Rattle.yt_log.specs.Counts.{AreJudged}
 use Rattle.yt_log.proofs.Judged.{AreAhead}
 use Rattle.yt_log.proofs.judge.miss.first_miss.Given as goal
 

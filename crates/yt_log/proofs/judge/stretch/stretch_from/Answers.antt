@@ -1,4 +1,4 @@
-use Rattle.std.proofs.Common.{List, ap, subst, sym, length, arith}
+use Rattle.std.proofs.Common.{List, subst, sym}
 use Rattle.yt_log.specs.declared.job.Segment.{Segment}
 use Rattle.yt_log.specs.Counts.{segment_at}
 use Rattle.yt_log.specs.Following.{Reads}

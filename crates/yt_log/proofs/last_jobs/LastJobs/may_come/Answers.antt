@@ -1,4 +1,4 @@
-use Rattle.std.proofs.Common.{◌≡◌, ◌≤◌, true, Some, sym, subst, ◌∙◌, arith}
+use Rattle.std.proofs.Common.{◌≤◌, subst, arith}
 use Rattle.yt_set.specs.declared.task.Task.{Task}
 use Rattle.yt_log.proofs.LastItems.{task_at}
 use Rattle.yt_log.proofs.PlanJudging.{comes_by_tests}

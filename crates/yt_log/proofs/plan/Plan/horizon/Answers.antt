@@ -1,4 +1,4 @@
-use Rattle.std.proofs.Common.{◌≡◌, ◌<◌, List, get_or, length, sym, subst, ◌∙◌}
+use Rattle.std.proofs.Common.{◌≡◌, List, get_or, subst, ◌∙◌}
 use Rattle.yt_log.specs.declared.plan.PlanItem.{PlanItem}
 use Rattle.yt_log.specs.Tasks.{Has}
 use Rattle.yt_log.proofs.Plans.{good_item}

@@ -1,4 +1,4 @@
-use Rattle.std.proofs.Common.{ap, ◌+◌, arith}
+use Rattle.std.proofs.Common.{ap, ◌+◌}
 use Rattle.yt_set.specs.declared.task.Task.{Task}
 use Rattle.yt_log.specs.Plan.{deadline_of}
 use Rattle.yt_log.proofs.LastItems.{task_at}

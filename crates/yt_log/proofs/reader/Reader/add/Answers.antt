@@ -1,5 +1,4 @@
-use Rattle.std.proofs.Common.{◌≡◌, ◌≤◌, ◌∷◌, [], ◌++◌, true, List, reverse, ap, ◌∙◌, sym, subst}
-use Rattle.yt_log.specs.declared.plan.PlanItem.{PlanItem}
+use Rattle.std.proofs.Common.{◌≡◌, ◌≤◌, true, reverse, ap, ◌∙◌, sym, subst}
 use Rattle.yt_log.specs.Plan.{IsLegalPlan, last_arrival}
 use Rattle.yt_log.specs.LastJobs.{AreLast, may_come}
 use Rattle.yt_log.specs.PlanReading.{PlanSoFar}

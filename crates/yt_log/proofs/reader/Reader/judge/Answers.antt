@@ -1,10 +1,10 @@
-use Rattle.std.proofs.Common.{◌≡◌, ◌≤◌, ◌∷◌, [], ◌++◌, List, Some, Ok, Err, Result, MatchResult, length, ap, ◌∙◌, sym, subst}
+use Rattle.std.proofs.Common.{◌≡◌, ◌≤◌, ◌∷◌, [], ◌++◌, List, Some, Ok, Err, Result, MatchResult, length, ap, sym, subst}
 use Rattle.yt_base.specs.Lines.{fields_of}
 use Rattle.yt_set.specs.NamedTasks.{NamedTasks}
 use Rattle.yt_set.specs.Tasks.{IsTaskSet}
 use Rattle.yt_log.specs.declared.plan.PlanItem.{PlanItem}
 use Rattle.yt_log.specs.declared.item_fault.ItemFault.{ItemFault}
-use Rattle.yt_log.specs.PlanText.{judged, judged_item, task_named}
+use Rattle.yt_log.specs.PlanText.{task_named}
 use Rattle.yt_log.specs.PlanReading.{PlanSoFar, texts_of}
 use Rattle.yt_log.proofs.PlanReads.{judged_as}
 use Rattle.yt_log.proofs.reader.Reader.judge.Goals as goal

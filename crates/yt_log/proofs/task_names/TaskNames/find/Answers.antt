@@ -1,13 +1,16 @@
-use Rattle.std.proofs.Common.{◌≡◌, ap, ◌∙◌, length, subst}
+use Rattle.std.proofs.Common.{ap, ◌∙◌}
 use Rattle.yt_set.specs.NamedTasks.{NamedTasks}
 use Rattle.yt_log.specs.PlanText.{task_named}
-use Rattle.yt_log.proofs.PlanReads.{named_in_set}
+use Rattle.yt_log.proofs.NameTables.{none_found, number_found}
 use Rattle.yt_log.proofs.task_names.TaskNames.find.Goals as goal
 
-pub returns-clause-in_set : goal.returns-clause-in_set
-returns-clause-in_set c =
-    let set = c.args.self.now in
-    let name = c.args.name.now in
-    named_in_set set.labels (length set.tasks) name c.find.result
-    (subst (λ (s : NamedTasks). length s.labels ≡ length s.tasks) c.self.view_is c.self.invariant.labelled)
-    (c.find.ensures ∙ c.self.invariant.named name ∙ ap (λ (s : NamedTasks). task_named s.labels name) c.self.view_is)
+pub returns-in_err-index-clause-number : goal.returns-in_err-index-clause-number
+returns-in_err-index-clause-number c =
+    c.from_residual.ensures
+    ∙ none_found c.self.inside.table c.self.inside.set.now.labels c.args.name.now c.self.invariant.named c.in_err-index.ensures.first
+    ∙ ap (λ (s : NamedTasks). task_named s.labels c.args.name.now) c.self.view_is
+
+pub returns-clause-number : goal.returns-clause-number
+returns-clause-number c =
+    number_found c.self.inside.table c.self.inside.set.now.labels c.args.name.now c.in_ok-index.index c.self.invariant.named c.in_ok-index.ensures.first
+    ∙ ap (λ (s : NamedTasks). task_named s.labels c.args.name.now) c.self.view_is

@@ -4,7 +4,7 @@ use Rattle.yt_graph.specs.AstPicture.{ast_stmt_tree, ast_block_tree}
 use Rattle.yt_graph.specs.AstParts.{ast_block_weight}
 use Rattle.yt_names.specs.Resolved.{resolved_stmt, resolved_block}
 use Rattle.yt_names.proofs.BuildLemmas.{block_next, block_done}
-use Rattle.yt_names.proofs.TreeLemmas.{stmts_cut}
+use Rattle.yt_name_faults.proofs.Lemmas.{stmts_cut}
 use Rattle.yt_names.proofs.ResolveLemmas.{locals_longer, locals_take, resolved_cut, left_over, left_falls}
 use Rattle.yt_names.proofs.resolve_handler.Build.+build.Goals as goal
 

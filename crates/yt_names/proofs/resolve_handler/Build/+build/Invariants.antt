@@ -2,7 +2,7 @@ use Rattle.std.proofs.Common.{◌≡◌, ◌≤◌, ◌+◌, ◌*◌, drop, take
 use Rattle.yt_graph.specs.AstPicture.{ast_stmt_tree, ast_block_tree}
 use Rattle.yt_graph.specs.AstParts.{ast_stmt_weight, ast_block_weight}
 use Rattle.yt_graph.specs.Picture.{block_tree}
-use Rattle.yt_names.specs.Handlers.{left_after_block}
+use Rattle.yt_name_faults.specs.Handlers.{left_after_block}
 use Rattle.yt_names.specs.Resolved.{resolved_block}
 use Rattle.yt_names.proofs.BuildLemmas.{block_then}
 use Rattle.yt_names.proofs.resolve_handler.Build.+build.Given as goal

@@ -1,8 +1,0 @@
-use Rattle.std.proofs.Common.{◌≡◌, drop}
-use Rattle.yt_graph.specs.AstPicture.{ast_exprs_tree}
-use Rattle.yartos.specs.Calls.{exprs_call}
-use Rattle.yartos.proofs.calls.exprs_call.Given as goal
-
--- what is left decides
-abbrev pub invariant-loop-expr : goal.invariant-loop-expr
-invariant-loop-expr l = exprs_call (ast_exprs_tree (drop l.expr-index l.exprs)) ≡ exprs_call (ast_exprs_tree l.exprs)

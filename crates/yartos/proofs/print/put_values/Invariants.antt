@@ -1,7 +1,0 @@
-use Rattle.std.proofs.Common.{◌≡◌, ◌++◌, drop}
-use Rattle.yt_run.specs.RunText.{spaced_values}
-use Rattle.yartos.proofs.print.put_values.Given as goal
-
--- what was put so far, and then the values that are left, is all
-abbrev pub invariant-loop-value : goal.invariant-loop-value
-invariant-loop-value l = l.text ++ spaced_values (drop l.value-index l.values) ≡ l.fn.text ++ spaced_values l.values

@@ -1,2 +1,0 @@
-mod PrintedRuns
-pub mod SentLemmas

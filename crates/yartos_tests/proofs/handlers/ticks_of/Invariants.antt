@@ -1,9 +1,0 @@
-use Rattle.std.proofs.Common.{◌≡◌, length}
-use Rattle.yt_code.specs.Ready.{IsReady}
-use Rattle.yartos_tests.proofs.handlers.ticks_of.Given as goal
-
-abbrev pub invariant-loop-n : goal.invariant-loop-n
-invariant-loop-n g l = record {
-  ready : IsReady l.code l.machine;
-  vars : length l.vars ≡ l.code.vars;
-}

@@ -1,0 +1,7 @@
+pub mod Calls
+pub mod Lines
+pub mod Trees
+pub mod Stages
+pub mod Causes
+pub mod Admissions
+pub mod Found

@@ -1,0 +1,4 @@
+pub mod Answered
+pub mod Lemmas
+pub mod LineLemmas
+pub mod ShownTasks

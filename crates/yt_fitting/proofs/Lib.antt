@@ -1,0 +1,3 @@
+mod TaskLines
+mod Reasons
+pub mod Lemmas

@@ -1,0 +1,4 @@
+pub mod FaultLines
+pub mod TaskText
+pub mod Loads
+pub mod Sets

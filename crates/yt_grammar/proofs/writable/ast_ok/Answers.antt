@@ -1,0 +1,11 @@
+use Rattle.std.proofs.Common.{◌∙◌, sym}
+use Rattle.yt_graph.specs.AstPicture.{ast_tree}
+use Rattle.yt_grammar.proofs.written.Spelled.{spelled_writable}
+use Rattle.yt_grammar.proofs.written.Written.{writable_written}
+use Rattle.yt_grammar.proofs.writable.ast_ok.Goals as goal
+
+pub returns : goal.returns
+returns c =
+    let tree = ast_tree c.args.ast.now in
+    let same = rw c.as_slice.ensures at c.items_ok.ensures in
+    ((λ h. writable_written tree (sym same ∙ h)), (λ w. same ∙ spelled_writable tree w.0 w.1))

@@ -1,0 +1,5 @@
+pub mod Tests
+pub mod Depths
+pub mod Spelled
+pub mod Written
+pub mod WellFormed

@@ -1,0 +1,8 @@
+pub mod Lexemes
+pub mod Forms
+pub mod Grammar
+pub mod Writable
+pub mod CanonicalText
+pub mod SamePlaces
+pub mod Reading
+pub mod Parts

@@ -1,0 +1,3 @@
+-- What callers cite of a handler's meaning: it keeps lengths, and stays within its greatest cost and sends.
+pub use Rattle.yt_graph.proofs.Lengths.{stmt_keeps, block_keeps}
+pub use Rattle.yt_graph.proofs.Within.{stmt_ticks, block_ticks, ticks_within, sends_within}

@@ -1,0 +1,9 @@
+mod ChainLemmas
+mod CycleLemmas
+mod FirstLemmas
+mod HandlerLemmas
+mod IndexLemmas
+pub mod Lemmas
+mod ListLemmas
+mod PartLemmas
+mod TreeLemmas

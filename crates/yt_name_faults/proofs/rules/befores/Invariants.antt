@@ -1,0 +1,7 @@
+use Rattle.std.proofs.Common.{◌≡◌, ◌++◌, map, drop}
+use Rattle.yt_name_faults.specs.Parts.{port_of, trees}
+use Rattle.yt_name_faults.specs.Paths.{befores}
+use Rattle.yt_name_faults.proofs.rules.befores.Given as goal
+
+abbrev pub invariant-loop-port : goal.invariant-loop-port
+invariant-loop-port l = l.all.items ++ befores (trees l.index) (map port_of (drop l.port-index l.ports)) ≡ befores (trees l.index) (map port_of l.ports)

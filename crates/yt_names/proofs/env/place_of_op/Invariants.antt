@@ -1,7 +1,0 @@
-use Rattle.std.proofs.Common.{◌≡◌, drop}
-use Rattle.yt_names.specs.Names.{first_of, op_names}
-use Rattle.yt_names.proofs.env.place_of_op.Given as goal
-
--- what is left has the answer
-abbrev pub invariant-loop-place : goal.invariant-loop-place
-invariant-loop-place l = first_of l.name l.place (op_names (drop l.place l.ops)) ≡ first_of l.name 0 (op_names l.ops)

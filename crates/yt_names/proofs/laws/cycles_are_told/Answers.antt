@@ -1,5 +1,0 @@
-use Rattle.yt_names.proofs.CycleLemmas.{cycles_are_told}
-use Rattle.yt_names.proofs.laws.cycles_are_told.Goals as goal
-
-pub returns : goal.returns
-returns c = cycles_are_told

@@ -1,7 +1,0 @@
-use Rattle.std.proofs.Common.{◌≡◌, ◌++◌, map, drop}
-use Rattle.yt_names.specs.Parts.{port_of, trees}
-use Rattle.yt_names.specs.Paths.{befores}
-use Rattle.yt_names.proofs.rules.befores.Given as goal
-
-abbrev pub invariant-loop-port : goal.invariant-loop-port
-invariant-loop-port l = l.all.items ++ befores (trees l.index) (map port_of (drop l.port-index l.ports)) ≡ befores (trees l.index) (map port_of l.ports)

@@ -1,0 +1,5 @@
+pub mod Orders
+pub mod Words
+pub mod Laws
+pub mod Sorting
+pub mod Falling

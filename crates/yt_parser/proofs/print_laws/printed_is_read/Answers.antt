@@ -1,5 +1,0 @@
-use Rattle.yt_parser.proofs.printing.Law.{printed_is_read}
-use Rattle.yt_parser.proofs.print_laws.printed_is_read.Goals as goal
-
-pub returns : goal.returns
-returns c = printed_is_read

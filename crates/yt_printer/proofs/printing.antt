@@ -1,0 +1,9 @@
+pub mod Marks
+pub mod Lexed
+pub mod Layouts
+pub mod Texts
+pub mod Good
+pub mod Reread
+pub mod RereadGraph
+pub mod Law
+pub mod Examples

@@ -1,0 +1,4 @@
+mod Deciding
+mod Near
+mod Outs
+mod Walks

@@ -1,0 +1,5 @@
+pub mod Limits
+pub mod LogSegments
+pub mod Begun
+pub mod Replacing
+pub mod InTime
