@@ -1,4 +1,4 @@
--- One verdict is due to a command and its files, and some verdict always is.
+-- One verdict is due to a command and its files, and it can't be that none is.
 use Rattle.std.proofs.Common.{◌≡◌, ℕ, zero, suc, List, [], ◌∷◌, Option, Some, sym, subst, ⊎_elim, inl, inr}
 use Rattle.yt_answer.specs.declared.verdict.Verdict.{Verdict}
 use Rattle.yt_answer.specs.declared.verdict.Verdict.TheVariants.{Long}
@@ -10,6 +10,8 @@ use Rattle.yt_cmd_form.specs.Form.{FormCause, IsFormText, form_verdict}
 use Rattle.yt_cmd_form.proofs.Lemmas.{one_form, some_form}
 use Rattle.yt_cmd_play.specs.Causes.{IsPlayText, PlayCause, play_verdict}
 use Rattle.yt_cmd_play.proofs.Lemmas.{one_play, some_play}
+use Rattle.yt_cmd_replay.specs.Causes.{IsReplayText, ReplayCause, replay_verdict}
+use Rattle.yt_cmd_replay.proofs.Lemmas.{one_replay, some_replay}
 use Rattle.yt_cmd_run.specs.Causes.{IsRunText, IsStopText, RunCause, StopCause, run_verdict, stop_verdict}
 use Rattle.yt_cmd_run.proofs.Lemmas.{one_run, one_stop, some_run, some_stop}
 use Rattle.yt_cmd_set.specs.Judged.{IsJudgedText, JudgedSetCause, judged_verdict}
@@ -19,7 +21,7 @@ use Rattle.yartos.specs.Answer.{IsDueTo}
 use Rattle.yartos.specs.Causes.{CommandCause, command_verdict}
 use Rattle.yartos.specs.FileCauses.{FileCause, IsFileText, file_verdict, long_line, read, too_long}
 use Rattle.yartos.specs.Reads.{CannotRead, IsFirstLong, IsRead}
-use Rattle.yartos.specs.Words.{Command, check, command_found, files_of, form, judges, play, run, set, stop, tasks}
+use Rattle.yartos.specs.Words.{Command, check, command_found, files_of, form, judges, play, replay, run, set, stop, tasks}
 use Rattle.yartos.proofs.FileLemmas.{file_due, file_held, long_due, not_over, one_file, read_held, some_file}
 
 -- what is due to the bytes of two files that were read is due to the files
@@ -61,6 +63,7 @@ first_long told (check graph) number is = one_long told graph (λ g. CheckCause 
 first_long told (run graph trace) number is = two_long told graph trace (λ g t. RunCause g t) (λ g t why. run_verdict why) (λ g t why. IsRunText why) number is
 first_long told (stop graph trace tick) number is = two_long told graph trace (λ g t. StopCause g) (λ g t why. stop_verdict why) (λ g t why. IsStopText why) number is
 first_long told (set named) number is = one_long told named (λ s. JudgedSetCause s) (λ s why. judged_verdict why) (λ s why. IsJudgedText why) number is
+first_long told (replay named) number is = one_long told named (λ s. ReplayCause s) (λ s why. replay_verdict why) (λ s why. IsReplayText why) number is
 first_long told (play named plan) number is = two_long told named plan (λ s p. PlayCause s p) (λ s p why. play_verdict why) (λ s p why. IsPlayText why) number is
 
 -- one verdict
@@ -78,6 +81,7 @@ one_command held (check graph) a b = one_file held graph (λ g. CheckCause g) (�
 one_command held (run graph trace) a b = two_files held graph trace (λ g t. RunCause g t) (λ g t why. run_verdict why) one_run a b
 one_command held (stop graph trace tick) a b = two_files held graph trace (λ g t. StopCause g) (λ g t why. stop_verdict why) (λ g t. one_stop g) a b
 one_command held (set named) a b = one_file held named (λ s. JudgedSetCause s) (λ s why. judged_verdict why) one_judged a b
+one_command held (replay named) a b = one_file held named (λ s. ReplayCause s) (λ s why. replay_verdict why) one_replay a b
 one_command held (play named plan) a b = two_files held named plan (λ s p. PlayCause s p) (λ s p why. play_verdict why) one_play a b
 
 -- where a verdict is due, no file that is reached is missing
@@ -98,6 +102,7 @@ command_held held (check graph) cause cannot = one_held held graph (λ g. CheckC
 command_held held (run graph trace) cause cannot = two_held held graph trace (λ g t. RunCause g t) cause cannot
 command_held held (stop graph trace tick) cause cannot = two_held held graph trace (λ g t. StopCause g) cause cannot
 command_held held (set named) cause cannot = one_held held named (λ s. JudgedSetCause s) cause cannot
+command_held held (replay named) cause cannot = one_held held named (λ s. ReplayCause s) cause cannot
 command_held held (play named plan) cause cannot = two_held held named plan (λ s p. PlayCause s p) cause cannot
 
 -- some verdict
@@ -119,4 +124,5 @@ some_command held (check graph) there none = some_one held graph (λ g. CheckCau
 some_command held (run graph trace) there none = some_two held graph trace (λ g t. RunCause g t) some_run there none
 some_command held (stop graph trace tick) there none = some_two held graph trace (λ g t. StopCause g) (λ g t. some_stop g) there none
 some_command held (set named) there none = some_one held named (λ s. JudgedSetCause s) some_judged there none
+some_command held (replay named) there none = some_one held named (λ s. ReplayCause s) some_replay there none
 some_command held (play named plan) there none = some_two held named plan (λ s p. PlayCause s p) some_play there none

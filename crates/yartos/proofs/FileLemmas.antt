@@ -1,10 +1,11 @@
--- What is due to files, from what is due to their bytes; and that one verdict is due to them, and some verdict always is.
+-- What is due to files, from what is due to their bytes; and that one verdict is due to them, and it can't be that none is.
 use Rattle.std.proofs.Common.{◌≡◌, ℕ, ◌≤◌, ◌<◌, List, length, Option, Some, None, refl, sym, subst, ◌∙◌, ⊎_elim, arith}
 use Rattle.std.specs.Prelude.{IsSomeAnd}
 use Rattle.std.proofs.lemmas.Bool.{cases_lt}
 use Rattle.yt_answer.specs.declared.verdict.Verdict.{Verdict}
 use Rattle.yt_answer.specs.declared.verdict.Verdict.TheVariants.{Long}
 use Rattle.yt_answer.specs.Due.{IsDue}
+use Rattle.yt_base.specs.Limits.{most_text_bytes}
 use Rattle.yt_io.specs.Shelf.{IsMissing}
 use Rattle.yartos.specs.FileCauses.{FileCause, IsFileText, file_verdict, long_line, read, too_long}
 use Rattle.yartos.specs.Reads.{IsRead, IsTooLong}
@@ -25,8 +26,8 @@ long_due told name number Asked of IsText is = record { cause = too_long is; ver
 
 pub not_over : (held : List ℕ → Option (List ℕ)) (name bytes : List ℕ) → IsRead (Some held) name bytes → IsTooLong (Some held) name → ⊥
 not_over held name bytes is longer =
-    let here : 16777216 < length bytes = subst (λ (o : Option (List ℕ)). IsSomeAnd o (λ bytes. 16777216 < length bytes)) is.held longer in
-    let short : length bytes ≤ 16777216 = is.short in
+    let here : most_text_bytes < length bytes = subst (λ (o : Option (List ℕ)). IsSomeAnd o (λ bytes. most_text_bytes < length bytes)) is.held longer in
+    let short : length bytes ≤ most_text_bytes = is.short in
     omega arith
 
 same_bytes : (held : List ℕ → Option (List ℕ)) (name x y : List ℕ) → IsRead (Some held) name x → IsRead (Some held) name y → x ≡ y
@@ -44,7 +45,7 @@ one_file held name Asked of one (read x is h) (read y more k) =
 -- a file that is held, or too long, isn't missing
 
 long_held : (held : List ℕ → Option (List ℕ)) (name : List ℕ) → IsTooLong (Some held) name → IsMissing (Some held) name → ⊥
-long_held held name over missing = subst (λ (o : Option (List ℕ)). IsSomeAnd o (λ bytes. 16777216 < length bytes)) missing over
+long_held held name over missing = subst (λ (o : Option (List ℕ)). IsSomeAnd o (λ bytes. most_text_bytes < length bytes)) missing over
 
 pub read_held : (held : List ℕ → Option (List ℕ)) (name bytes : List ℕ) → IsRead (Some held) name bytes → IsMissing (Some held) name → ⊥
 read_held held name bytes is missing = let here = is.held in let clash : ◌≡◌ {A = Option (List ℕ)} None (Some bytes) = sym missing ∙ here in cc
@@ -63,6 +64,6 @@ some_file held name Asked there some none = by (held name) refl
     by None e = there e
     by (Some bytes) e =
         ⊎_elim
-        (λ (more : 16777216 < length bytes). none (too_long (subst (λ (o : Option (List ℕ)). IsSomeAnd o (λ bytes. 16777216 < length bytes)) (sym e) more)))
-        (λ (few : length bytes ≤ 16777216). let is : IsRead (Some held) name bytes = record { held = e; short = few } in some bytes is (λ why. none (read bytes is why)))
-        (cases_lt 16777216 (length bytes))
+        (λ (more : most_text_bytes < length bytes). none (too_long (subst (λ (o : Option (List ℕ)). IsSomeAnd o (λ bytes. most_text_bytes < length bytes)) (sym e) more)))
+        (λ (few : length bytes ≤ most_text_bytes). let is : IsRead (Some held) name bytes = record { held = e; short = few } in some bytes is (λ why. none (read bytes is why)))
+        (cases_lt most_text_bytes (length bytes))

@@ -1,29 +1,31 @@
--- One status is due to words and files, and some status always is.
+-- One status is due to words and files, and it can't be that none is.
 use Rattle.std.proofs.Common.{◌≡◌, ℕ, List, Option, Some, refl, sym, ap, subst, ◌∙◌}
 use Rattle.yt_answer.specs.declared.status.Status.{Status}
 use Rattle.yt_answer.specs.declared.verdict.Verdict.{Verdict}
+use Rattle.yt_answer.specs.declared.verdict.Verdict.TheVariants.{NotYet}
 use Rattle.yt_answer.specs.Code.{status_of}
+use Rattle.yt_answer.specs.Due.{not_yet_line}
 use Rattle.yartos.specs.Answer.{CallsFor, CannotReadNamed, IsAnswer, IsDueTo}
 use Rattle.yartos.specs.Causes.{RequestCause, request_verdict}
-use Rattle.yartos.specs.Words.{Request, judges, later, misuse, request_of}
+use Rattle.yartos.specs.Words.{IsNotBuilt, Request, demo, judges, misuse, request_of}
 use Rattle.yartos.proofs.Commands.{command_held, one_command, some_command}
 
 -- one verdict is due to a request
 pub one_request : (held : List ℕ → Option (List ℕ)) (request : Request) (a b : RequestCause (Some held) request) → request_verdict (Some held) request a ≡ request_verdict (Some held) request b
 one_request held misuse a b = refl
-one_request held later a b = refl
+one_request held (demo number) a b = refl
 one_request held (judges command) a b = one_command held command a b
 
 -- where one is due, no file that is reached is missing
 pub request_held : (held : List ℕ → Option (List ℕ)) (request : Request) → RequestCause (Some held) request → CannotReadNamed (Some held) request → ⊥
 request_held held misuse cause cannot = cannot
-request_held held later cause cannot = cannot
+request_held held (demo number) cause cannot = cannot
 request_held held (judges command) cause cannot = command_held held command cause cannot
 
 -- some verdict is due to a request none of whose files is missing
 pub some_request : (held : List ℕ → Option (List ℕ)) (request : Request) → (CannotReadNamed (Some held) request → ⊥) → (RequestCause (Some held) request → ⊥) → ⊥
 some_request held misuse there none = none tt
-some_request held later there none = none tt
+some_request held (demo number) there none = none tt
 some_request held (judges command) there none = some_command held command there none
 
 -- what is due where the shelf tells has a cause by what is held
@@ -56,3 +58,9 @@ answer_is_called held words a b text h k = h.is ∙ due_is_called (Some held) he
 pub can_read : (told : Option (List ℕ → Option (List ℕ))) (held : List ℕ → Option (List ℕ)) (words : List (List ℕ)) (due : Status) → told ≡ Some held → CallsFor held words due →
     CannotReadNamed told (request_of words) → ⊥
 can_read told held words due tells calls cannot = request_held held (request_of words) calls.cause (subst (λ t. CannotReadNamed t (request_of words)) tells cannot)
+
+-- what is due to a request that isn't built yet
+pub not_built_due : (told : Option (List ℕ → Option (List ℕ))) (request : Request) → IsNotBuilt request → IsDueTo told request NotYet not_yet_line
+not_built_due told misuse is = absurd is
+not_built_due told (demo number) is = record { cause = tt; verdict = refl; told = refl }
+not_built_due told (judges command) is = absurd is

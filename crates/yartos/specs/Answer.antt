@@ -7,7 +7,7 @@ use Rattle.yt_answer.specs.Code.{status_of}
 use Rattle.yt_answer.specs.Due.{IsDue}
 use Rattle.yartos.specs.Causes.{IsRequestText, RequestCause, request_verdict}
 use Rattle.yartos.specs.Reads.{CannotRead}
-use Rattle.yartos.specs.Words.{Request, files_of, judges, later, misuse, request_of}
+use Rattle.yartos.specs.Words.{Request, demo, files_of, judges, misuse, request_of}
 
 -- this verdict with this text is due to a request, by what the shelf tells of its files
 abbrev pub IsDueTo : Option (List ℕ → Option (List ℕ)) → Request → Verdict → List ℕ → Type 0
@@ -27,7 +27,7 @@ pub record CallsFor (held : List ℕ → Option (List ℕ)) (words : List (List 
 -- the shelf tells that a file isn't held which the words name, and each before it was read
 abbrev pub CannotReadNamed : Option (List ℕ → Option (List ℕ)) → Request → Type 0
 CannotReadNamed told misuse = ⊥
-CannotReadNamed told later = ⊥
+CannotReadNamed told (demo number) = ⊥
 CannotReadNamed told (judges command) = CannotRead told (files_of command)
 
 -- P, unless a read, a write or memory failed

@@ -7,10 +7,11 @@ use Rattle.yt_cmd_check.specs.Check.{CheckCause, IsCheckText, check_verdict}
 use Rattle.yt_cmd_check.specs.Tasks.{IsTasksText, TasksCause, tasks_verdict}
 use Rattle.yt_cmd_form.specs.Form.{FormCause, IsFormText, form_verdict}
 use Rattle.yt_cmd_play.specs.Causes.{IsPlayText, PlayCause, play_verdict}
+use Rattle.yt_cmd_replay.specs.Causes.{IsReplayText, ReplayCause, replay_verdict}
 use Rattle.yt_cmd_run.specs.Causes.{IsRunText, IsStopText, RunCause, StopCause, run_verdict, stop_verdict}
 use Rattle.yt_cmd_set.specs.Judged.{IsJudgedText, JudgedSetCause, judged_verdict}
 use Rattle.yartos.specs.FileCauses.{FileCause, IsFileText, file_verdict}
-use Rattle.yartos.specs.Words.{Command, Request, check, form, judges, later, misuse, play, run, set, stop, tasks}
+use Rattle.yartos.specs.Words.{Command, Request, check, demo, form, judges, misuse, play, replay, run, set, stop, tasks}
 
 -- why a verdict comes to a command, by what its files hold, which are read in order
 abbrev pub CommandCause : Option (List ℕ → Option (List ℕ)) → Command → Type 0
@@ -20,6 +21,7 @@ CommandCause told (check graph) = FileCause told graph (λ g. CheckCause g)
 CommandCause told (run graph trace) = FileCause told graph (λ g. FileCause told trace (λ t. RunCause g t))
 CommandCause told (stop graph trace tick) = FileCause told graph (λ g. FileCause told trace (λ t. StopCause g))
 CommandCause told (set named) = FileCause told named (λ s. JudgedSetCause s)
+CommandCause told (replay named) = FileCause told named (λ s. ReplayCause s)
 CommandCause told (play named plan) = FileCause told named (λ s. FileCause told plan (λ p. PlayCause s p))
 
 -- the verdict
@@ -30,6 +32,7 @@ command_verdict told (check graph) cause = file_verdict (λ g why. check_verdict
 command_verdict told (run graph trace) cause = file_verdict (λ g. file_verdict (λ t why. run_verdict why)) cause
 command_verdict told (stop graph trace tick) cause = file_verdict (λ g. file_verdict (λ t why. stop_verdict why)) cause
 command_verdict told (set named) cause = file_verdict (λ s why. judged_verdict why) cause
+command_verdict told (replay named) cause = file_verdict (λ s why. replay_verdict why) cause
 command_verdict told (play named plan) cause = file_verdict (λ s. file_verdict (λ p why. play_verdict why)) cause
 
 -- its text
@@ -40,18 +43,19 @@ IsCommandText told (check graph) cause text = IsFileText 1 (λ g why. IsCheckTex
 IsCommandText told (run graph trace) cause text = IsFileText 1 (λ g. IsFileText 2 (λ t why. IsRunText why)) cause text
 IsCommandText told (stop graph trace tick) cause text = IsFileText 1 (λ g. IsFileText 2 (λ t why. IsStopText why)) cause text
 IsCommandText told (set named) cause text = IsFileText 1 (λ s why. IsJudgedText why) cause text
+IsCommandText told (replay named) cause text = IsFileText 1 (λ s why. IsReplayText why) cause text
 IsCommandText told (play named plan) cause text = IsFileText 1 (λ s. IsFileText 2 (λ p why. IsPlayText why)) cause text
 
 -- why a verdict comes to what words ask for; words of no listed form, and of a form that isn't built yet, are a cause by themselves
 abbrev pub RequestCause : Option (List ℕ → Option (List ℕ)) → Request → Type 0
 RequestCause told misuse = Unit {0}
-RequestCause told later = Unit {0}
+RequestCause told (demo number) = Unit {0}
 RequestCause told (judges command) = CommandCause told command
 
 -- the verdict
 abbrev pub request_verdict : (told : Option (List ℕ → Option (List ℕ))) (request : Request) → RequestCause told request → Verdict
 request_verdict told misuse cause = Usage
-request_verdict told later cause = NotYet
+request_verdict told (demo number) cause = NotYet
 request_verdict told (judges command) cause = command_verdict told command cause
 
 -- the line that tells the listed forms
@@ -61,5 +65,5 @@ usage_line = codes "usage: yartos form G, tasks G, check G, run G T, stop G T N,
 -- its text
 abbrev pub IsRequestText : (told : Option (List ℕ → Option (List ℕ))) (request : Request) → RequestCause told request → List ℕ → Type 0
 IsRequestText told misuse cause text = text ≡ usage_line
-IsRequestText told later cause text = text ≡ not_yet_line
+IsRequestText told (demo number) cause text = text ≡ not_yet_line
 IsRequestText told (judges command) cause text = IsCommandText told command cause text

@@ -5,9 +5,9 @@ use Rattle.yt_base.specs.declared.numbers.Decimal.{Decimal}
 use Rattle.yt_base.specs.declared.numbers.Decimal.TheVariants.{Other, Over, Value}
 use Rattle.yt_base.specs.Digits.{digits_of_text}
 use Rattle.yartos.specs.declared.words.Command as declared_command
-use Rattle.yartos.specs.declared.words.Command.TheVariants.{Form, Tasks, Check, Run, Stop, Set, Play}
+use Rattle.yartos.specs.declared.words.Command.TheVariants.{Form, Tasks, Check, Run, Stop, Set, Replay, Play}
 use Rattle.yartos.specs.declared.words.Request as declared
-use Rattle.yartos.specs.declared.words.Request.TheVariants.{Misuse, Later, Judges}
+use Rattle.yartos.specs.declared.words.Request.TheVariants.{Misuse, Demo, Judges}
 use Rattle.yartos.specs.declared.words.TheConstants.{MOST_DIGITS}
 
 -- the bytes of each word
@@ -29,15 +29,6 @@ value_in Other = None
 abbrev pub count_of : List ℕ → Option ℕ
 count_of word = if nat_le (length word) MOST_DIGITS then value_in (digits_of_text word) else None
 
--- a number from 1 to 16
-abbrev pub is_from_1_to_16 : Option ℕ → Bool
-is_from_1_to_16 (Some n) = nat_le 1 n && nat_le n 16
-is_from_1_to_16 None = false
-
--- a count from 1 to 16
-abbrev pub is_demo_count : List ℕ → Bool
-is_demo_count word = is_from_1_to_16 (count_of word)
-
 -- a command that judges the files of these names
 pub data Command : Type 0 where
   form : (graph : List ℕ) → Command
@@ -46,18 +37,24 @@ pub data Command : Type 0 where
   run : (graph trace : List ℕ) → Command
   stop : (graph trace : List ℕ) (tick : ℕ) → Command
   set : (named : List ℕ) → Command
+  replay : (named : List ℕ) → Command
   play : (named plan : List ℕ) → Command
 
--- what words ask for: they are no listed form, they're of a form that isn't built yet, or a command judges files
+-- what words ask for: they are no listed form; the example of a number is shown, which isn't built yet; or a command judges files
 pub data Request : Type 0 where
   misuse : Request
-  later : Request
+  demo : (number : ℕ) → Request
   judges : Command → Request
 
 -- a stop of a run at the tick that a word counts, where it counts one
 abbrev pub stops : List ℕ → List ℕ → Option ℕ → Request
 stops graph trace (Some tick) = judges (stop graph trace tick)
 stops graph trace None = misuse
+
+-- the demo of the number that a word counts, where it counts one from 1 to 16
+abbrev pub demos : Option ℕ → Request
+demos (Some number) = if nat_le 1 number && nat_le number 16 then demo number else misuse
+demos None = misuse
 
 -- what words ask for: one word behind the command, two or three, as the listed forms have them
 abbrev pub request_of : List (List ℕ) → Request
@@ -66,8 +63,8 @@ request_of (command ∷ word ∷ []) =
     else (if bytes_eq command (codes "tasks") && names_file word then judges (tasks word)
     else (if bytes_eq command (codes "check") && names_file word then judges (check word)
     else (if bytes_eq command (codes "set") && names_file word then judges (set word)
-    else (if bytes_eq command (codes "replay") && names_file word then later
-    else (if bytes_eq command (codes "demo") && is_demo_count word then later
+    else (if bytes_eq command (codes "replay") && names_file word then judges (replay word)
+    else (if bytes_eq command (codes "demo") then demos (count_of word)
     else misuse)))))
 request_of (command ∷ first ∷ second ∷ []) =
     if bytes_eq command (codes "run") && (names_file first && names_file second) then judges (run first second)
@@ -86,13 +83,20 @@ files_of (check graph) = graph ∷ []
 files_of (run graph trace) = graph ∷ trace ∷ []
 files_of (stop graph trace tick) = graph ∷ trace ∷ []
 files_of (set named) = named ∷ []
+files_of (replay named) = named ∷ []
 files_of (play named plan) = named ∷ plan ∷ []
 
 -- a request that no file is read for
 abbrev pub NeedsNoFile : Request → Type 0
 NeedsNoFile misuse = Unit {0}
-NeedsNoFile later = Unit {0}
+NeedsNoFile (demo number) = Unit {0}
 NeedsNoFile (judges command) = ⊥
+
+-- a request that isn't built yet
+abbrev pub IsNotBuilt : Request → Type 0
+IsNotBuilt misuse = ⊥
+IsNotBuilt (demo number) = Unit {0}
+IsNotBuilt (judges command) = ⊥
 
 -- the command that the code finds, with the bytes of the words
 abbrev pub command_found : declared_command.Command → Command
@@ -102,10 +106,11 @@ command_found (Check graph) = check graph.now
 command_found (Run graph trace) = run graph.now trace.now
 command_found (Stop graph trace tick) = stop graph.now trace.now tick
 command_found (Set named) = set named.now
+command_found (Replay named) = replay named.now
 command_found (Play named plan) = play named.now plan.now
 
 -- the request that the code finds
 abbrev pub request_found : declared.Request → Request
 request_found Misuse = misuse
-request_found Later = later
+request_found (Demo number) = demo number
 request_found (Judges command) = judges (command_found command)

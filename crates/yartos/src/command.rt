@@ -12,6 +12,7 @@ use yt_answer::Answer;
 use yt_cmd_check::{check_answer, tasks_answer};
 use yt_cmd_form::form_answer;
 use yt_cmd_play::play_answer;
+use yt_cmd_replay::replay_answer;
 use yt_cmd_run::{run_answer, stop_answer};
 use yt_cmd_set::set_answer;
 use yt_io::Shelf;
@@ -52,6 +53,10 @@ pub(crate) fn answer_command<S: Shelf>(
         Command::Set { set } => {
             let set = read_one(alloc, set, shelf)?;
             Ok(set_answer(alloc, &set)?)
+        }
+        Command::Replay { set } => {
+            let set = read_one(alloc, set, shelf)?;
+            Ok(replay_answer(alloc, &set)?)
         }
         Command::Play { set, plan } => {
             let (set, plan) = read_two(alloc, set, plan, shelf)?;

@@ -6,10 +6,8 @@ ghost use Rattle.yartos.specs.declared.files.Unanswered.TheVariants.{NoMemory};
 ghost use Rattle.yartos.specs.Reads.{CannotRead, IfLong, IsFirstLong, IsRead, IsTooLong};
 
 use std::alloc::{AllocError, Global};
+use yt_base::MOST_TEXT_BYTES;
 use yt_io::{Shelf, ShelfFault};
-
-/// The most bytes that a file may have.
-const MOST_BYTES: usize = 16_777_216;
 
 /// Why there is no answer but that of a file that is too long.
 #[derive(Clone, Copy, Debug, PartialEq, Eq)]
@@ -43,7 +41,7 @@ pub(crate) fn read_file<S: Shelf>(
     ensures not_read { IsErrOf result Unanswered.NotRead → IsMissing (S.held shelf.old) name.now ⊎ Rose (S.faults shelf.old) (S.faults shelf.new) }
     ensures long { IfErr result (λ e. IfLong e (λ n. (n ≡ number) × IsTooLong (S.held shelf.old) name.now)) }
 {
-    match shelf.read(alloc, name, MOST_BYTES) {
+    match shelf.read(alloc, name, MOST_TEXT_BYTES) {
         Ok(bytes) => Ok(bytes),
         Err(ShelfFault::Failed) => Err(Unanswered::NotRead),
         Err(ShelfFault::Long) => Err(Unanswered::TooLong(number)),

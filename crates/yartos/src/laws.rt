@@ -7,7 +7,7 @@ pub fn one_status_is_due()
     ensures { OneStatusIsDue }
 {}
 
-/// Some status is always due, unless a file that words name can't be read.
+/// Where a shelf tells what it holds, and each file that words name and that is reached can be read, it can't be that no status is due.
 pub fn some_status_is_due()
     ensures { SomeStatusIsDue }
 {}

@@ -2,7 +2,7 @@
 ghost use Rattle.std.specs.Prelude.{◌≡◌, ◌⊎◌, ◌≤◌, ℕ, List, Option, Some};
 ghost use Rattle.yt_io.specs.Faults.{IsQuiet, Rose};
 ghost use Rattle.yt_io.specs.Sink.{AddsFront, add};
-ghost use Rattle.yartos.specs.Words.{NeedsNoFile, later, misuse, request_of, texts};
+ghost use Rattle.yartos.specs.Words.{IsNotBuilt, NeedsNoFile, misuse, request_of, texts};
 ghost use Rattle.yartos.specs.Answer.{CallsFor, CannotReadNamed, IfVerdict, IsAnswer, OrNoMemory, OrWriteFault};
 ghost use Rattle.yartos.specs.FileCauses.{long_line};
 
@@ -11,16 +11,13 @@ use crate::files::Unanswered;
 use crate::words::{Request, request_of};
 use crate::write::tell;
 use std::alloc::Global;
-use yt_answer::{Status, Verdict};
+use yt_answer::{NOT_YET, Status, Verdict};
 use yt_base::Line;
 use yt_io::{Shelf, Sink};
 
 /// What is written where the words are no listed form.
 const USAGE: &[u8] =
     b"usage: yartos form G, tasks G, check G, run G T, stop G T N, set S, play S P, replay S, demo N\n";
-
-/// What is written where the words are of a form that isn't built yet.
-const NOT_YET: &[u8] = b"notyet\n";
 
 /// Answers the words, with what the shelf holds, on the sink: each line is one write. All memory is taken before the first
 /// write, and after a failed write nothing more is written.
@@ -52,7 +49,7 @@ pub fn yartos<S: Shelf, K: Sink>(
 
     // Words of no listed form, or of one that isn't built yet, are answered even where there is no memory, and no file is read.
     ensures no_form { request_of (texts words.now.items) ≡ misuse → OrWriteFault result Status.Usage }
-    ensures not_built { request_of (texts words.now.items) ≡ later → OrWriteFault result Status.NotYet }
+    ensures not_built { IsNotBuilt (request_of (texts words.now.items)) → OrWriteFault result Status.NotYet }
     ensures unread { NeedsNoFile (request_of (texts words.now.items)) → shelf.new ≡ shelf.old }
 
     // Where the shelf tells what it holds and no count rises, the status is the one that is called for, unless memory runs out.
@@ -61,7 +58,7 @@ pub fn yartos<S: Shelf, K: Sink>(
 {
     match request_of(words) {
         Request::Misuse => tell(out, Verdict::Usage, USAGE),
-        Request::Later => tell(out, Verdict::NotYet, NOT_YET),
+        Request::Demo { .. } => tell(out, Verdict::NotYet, NOT_YET),
         Request::Judges(command) => match answer_command(alloc, command, shelf) {
             Ok(answer) => tell(out, answer.verdict, answer.text.as_slice()),
             Err(Unanswered::TooLong(number)) => {

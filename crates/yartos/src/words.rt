@@ -1,6 +1,6 @@
 //! The forms of the words.
 ghost use Rattle.std.specs.Prelude.{◌≡◌, [], ◌∷◌};
-ghost use Rattle.yartos.specs.Words.{count_of, is_demo_count, names_file, request_found, request_of, texts};
+ghost use Rattle.yartos.specs.Words.{count_of, demos, names_file, request_found, request_of, texts};
 
 use yt_base::{Decimal, digits};
 
@@ -37,6 +37,10 @@ pub(crate) enum Command<'a> {
     Set {
         set: &'a str,
     },
+    /// The play of the arrivals that show that a set of tasks doesn't fit.
+    Replay {
+        set: &'a str,
+    },
     /// The play of a plan for a set of tasks.
     Play {
         set: &'a str,
@@ -49,8 +53,8 @@ pub(crate) enum Command<'a> {
 pub(crate) enum Request<'a> {
     /// Nothing: they are no listed form.
     Misuse,
-    /// A command that isn't built yet.
-    Later,
+    /// To show the example of a number from 1 to 16, which isn't built yet.
+    Demo { number: u32 },
     /// A command that judges files.
     Judges(Command<'a>),
 }
@@ -88,11 +92,21 @@ fn request_of_one<'a>(command: &str, word: &'a str) -> Request<'a>
     } else if command == "set" && is_file {
         Request::Judges(Command::Set { set: word })
     } else if command == "replay" && is_file {
-        Request::Later
-    } else if command == "demo" && is_demo_count(word) {
-        Request::Later
+        Request::Judges(Command::Replay { set: word })
+    } else if command == "demo" {
+        demo_of(count(word))
     } else {
         Request::Misuse
+    }
+}
+
+/// The demo of a count from 1 to 16.
+fn demo_of<'a>(count: Option<u32>) -> Request<'a>
+    ensures { request_found result ≡ demos count }
+{
+    match count {
+        Some(number @ 1..=16) => Request::Demo { number },
+        _ => Request::Misuse,
     }
 }
 
@@ -149,11 +163,4 @@ fn count(word: &str) -> Option<u32>
         Decimal::Value(n) => u32::try_from(n).ok(),
         _ => None,
     }
-}
-
-/// Whether a word is a count from 1 to 16.
-fn is_demo_count(word: &str) -> bool
-    ensures { result ≡ is_demo_count word.now }
-{
-    matches!(count(word), Some(1..=16))
 }

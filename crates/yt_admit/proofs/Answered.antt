@@ -14,7 +14,7 @@ use Rattle.yt_admit.specs.declared.admission.Admission.TheVariants.{Refused, Unf
 use Rattle.yt_admit.specs.Admissions.{IsAdmissionOf}
 use Rattle.yt_admit.specs.Calls.{has_call}
 use Rattle.yt_admit.specs.Causes.{StageCause, IsStageText, stage_verdict, IsRated}
-use Rattle.yt_admit.specs.Found.{IsAdmissionIn}
+use Rattle.yt_admit.specs.Inside.Judged.{IsAdmissionIn}
 use Rattle.yt_admit.specs.Lines.{IsLexLine}
 use Rattle.yt_admit.specs.Trees.{IsTreeOf, IsUnreadText, unread_verdict, not_lexed}
 use Rattle.yt_admit.proofs.Lemmas.{tree_due, tree_refused}

@@ -77,10 +77,10 @@ ports_lack all owner key vars first (p ∷ rest) =
     (ports_lack all owner key vars first rest)
 
 item_lacks : (all : List ItemTree) (first : ℕ) (i : ItemTree) → All LacksCalls (resolved_ports_of all [] first i)
-item_lacks all first (input w width period) = All-nil LacksCalls
-item_lacks all first (output w path) = All-nil LacksCalls
-item_lacks all first (resource w) = All-nil LacksCalls
-item_lacks all first (process w inside vars ports) = ports_lack all w.text (resource_name w inside) vars first ports
+item_lacks all first (input i) = All-nil LacksCalls
+item_lacks all first (output o) = All-nil LacksCalls
+item_lacks all first (resource r) = All-nil LacksCalls
+item_lacks all first (process p) = ports_lack all p.name.text (resource_name p.name p.inside) p.vars first p.ports
 
 items_lack : (all : List ItemTree) (first : ℕ) (items : List ItemTree) → All LacksCalls (resolved_ports all [] first items)
 items_lack all first [] = All-nil LacksCalls

@@ -9,7 +9,7 @@ use Rattle.yt_lexer.proofs.Lemmas.{lexes_once}
 use Rattle.yt_grammar.specs.Grammar.{Spells, IsStuckAt}
 use Rattle.yt_grammar.specs.Lexemes.{Tok, toks_of}
 use Rattle.yt_parser.specs.Parses.{IsSyntaxFault, place_before}
-use Rattle.yt_grammar.specs.Reading.{Reading, got, stuck, graph_reader}
+use Rattle.yt_grammar.specs.Inside.Reading.{Reading, got, stuck, graph_reader}
 use Rattle.yt_parser.proofs.Lemmas.{lexes-tokens}
 use Rattle.yt_grammar.proofs.Lemmas.{graph_only, graph_read, graph_stuck}
 use Rattle.yt_admit.specs.Trees.{IsTreeOf}

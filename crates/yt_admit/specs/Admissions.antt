@@ -4,7 +4,6 @@ use Rattle.yt_graph.specs.AstPicture.{ItemTree, ast_tree}
 use Rattle.yt_graph.specs.AstWellFormed.{IsWritable}
 use Rattle.yt_graph.specs.Picture.{graph_tree}
 use Rattle.yt_graph.specs.WellFormed.{IsWellFormed}
-pub use Rattle.yt_lexer.specs.Limits.{most_text_bytes}
 use Rattle.yt_fits.specs.Unfits.{IsReason}
 use Rattle.yt_rates.specs.Acceptance.{IsAccepted}
 use Rattle.yt_rates.specs.Tables.{tasks_of}

@@ -37,10 +37,10 @@ ports_call ports = list_any (λ p. block_calls p.body) ports
 
 -- a handler of a part holds a call
 abbrev pub item_calls : ItemTree → Bool
-item_calls (input w width period) = false
-item_calls (output w path) = false
-item_calls (resource w) = false
-item_calls (process w inside vars ports) = ports_call ports
+item_calls (input i) = false
+item_calls (output o) = false
+item_calls (resource r) = false
+item_calls (process p) = ports_call p.ports
 
 -- a handler of the graph holds a call
 abbrev pub has_call : List ItemTree → Bool

@@ -4,4 +4,4 @@ pub mod Trees
 pub mod Stages
 pub mod Causes
 pub mod Admissions
-pub mod Found
+pub mod Inside

@@ -2,12 +2,13 @@
 ghost use Rattle.std.specs.Prelude.{◌≡◌, ◌≤◌, IfOk, length};
 ghost use Rattle.yt_graph.specs.AstPicture.{ast_tree};
 ghost use Rattle.yt_graph.specs.AstWellFormed.{IsWritable};
-ghost use Rattle.yt_admit.specs.Admissions.{IsAdmissionOf, most_text_bytes};
-ghost use Rattle.yt_admit.specs.Found.{IsAdmissionIn};
+ghost use Rattle.yt_base.specs.Limits.{most_text_bytes};
+ghost use Rattle.yt_admit.specs.Admissions.{IsAdmissionOf};
+ghost use Rattle.yt_admit.specs.Inside.Judged.{IsAdmissionIn};
 
+use crate::judging::{Judged, judge};
 use crate::lines::{cost_line, name_line, rate_line};
 use crate::reading::{Reading, read_graph};
-use crate::stage::{Stage, stage_of};
 use std::alloc::{AllocError, Global};
 use yt_answer::Answer;
 use yt_fits::Unfit;
@@ -44,15 +45,17 @@ fn admit_tree(alloc: Global, ast: Ast) -> Result<Admission, AllocError>
     requires { IsWritable (ast_tree ast) }
     ensures { IfOk result (λ admission. IsAdmissionIn (ast_tree ast) admission) }
 {
-    match stage_of(alloc, &ast)? {
-        Stage::Misnamed(fault) => Ok(Admission::Refused(Answer::refused(name_line(alloc, fault)?))),
-        Stage::Costly(graph, fault) => Ok(Admission::Refused(Answer::refused(cost_line(
+    match judge(alloc, &ast)? {
+        Judged::Misnamed(fault) => Ok(Admission::Refused(Answer::refused(name_line(
+            alloc, fault,
+        )?))),
+        Judged::Costly(graph, fault) => Ok(Admission::Refused(Answer::refused(cost_line(
             alloc, &graph, fault,
         )?))),
-        Stage::Misrated(graph, fault) => Ok(Admission::Refused(Answer::refused(rate_line(
+        Judged::Misrated(graph, fault) => Ok(Admission::Refused(Answer::refused(rate_line(
             alloc, &graph, fault,
         )?))),
-        Stage::Unfit(graph, why, set) => Ok(Admission::Unfit(graph, why, set)),
-        Stage::Accepted(accepted) => Ok(Admission::Accepted(ast, accepted)),
+        Judged::Unfit(graph, why, set) => Ok(Admission::Unfit(graph, why, set)),
+        Judged::Accepted(accepted) => Ok(Admission::Accepted(ast, accepted)),
     }
 }

@@ -1,7 +1,8 @@
 //! The names of a graph's ports and outs in texts.
-ghost use Rattle.std.specs.Prelude.{◌≡◌, ◌-◌, ◌∷◌, ◌++◌, IfOk, OnOk};
+ghost use Rattle.std.specs.Prelude.{◌≡◌, ◌∷◌, ◌++◌, IfOk, OnOk, option_copied};
 ghost use Rattle.yt_graph.specs.Labels.{label_of, labels_of, out_name, port_label};
 ghost use Rattle.yt_graph.specs.Picture.{graph_tree, port_tree};
+ghost use Rattle.yt_list.specs.Numbered.{numbered};
 
 use std::alloc::{AllocError, Global};
 use yt_base::Text;
@@ -44,7 +45,7 @@ pub fn put_label(text: &mut Text, graph: &Graph, number: u32) -> Result<(), Allo
 fn names_of_port(graph: &Graph, number: u32) -> (&[u8], &[u8])
     ensures { result.0.now ++ 46 ∷ result.1.now ≡ port_label (graph_tree graph.now) number }
 {
-    match graph.ports.as_slice().get(place_of(number)) {
+    match numbered(graph.ports.as_slice(), number) {
         Some(port) => (port.process.as_slice(), port.name.as_slice()),
         None => (b"", b""),
     }
@@ -54,8 +55,8 @@ fn names_of_port(graph: &Graph, number: u32) -> (&[u8], &[u8])
 pub(crate) fn name_of_out(graph: &Graph, port: u32, out: u32) -> &[u8]
     ensures { result.now ≡ out_name (graph_tree graph.now) port out }
 {
-    match graph.ports.as_slice().get(place_of(port)) {
-        Some(port) => match port.outs.as_slice().get(place_of(out)) {
+    match numbered(graph.ports.as_slice(), port) {
+        Some(port) => match numbered(port.outs.as_slice(), out) {
             Some(out) => out.name.as_slice(),
             None => b"",
         },
@@ -63,9 +64,12 @@ pub(crate) fn name_of_out(graph: &Graph, port: u32, out: u32) -> &[u8]
     }
 }
 
-/// The place, from 0, of what has this number, from 1.
-fn place_of(number: u32) -> usize
-    ensures { result ≡ number - 1 }
+/// The item of a number, from 1; `None` exactly where there is no such item.
+fn numbered<T>(items: &[T], number: u32) -> Option<&T>
+    ensures { option_copied result ≡ numbered items.now number }
 {
-    number.saturating_sub(1) as usize
+    if number == 0 {
+        return None;
+    }
+    items.get(number as usize - 1)
 }

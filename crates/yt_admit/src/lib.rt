@@ -5,16 +5,16 @@
 //! about a graph: a command composes its own causes behind `TreeCause` and `GraphCause` (`specs/Trees.antt`, `specs/Causes.antt`). Its
 //! contract: [`read_graph`] gives the tree of the text, or the answer that is due to it whatever is asked about its tree
 //! (`IsReadingOf` in `specs/Admissions.antt`); [`admit`] gives the accepted graph, the graph whose tasks don't fit with the reason, or the
-//! answer that is due to it whatever is asked about its graph (`IsAdmissionOf`); [`graph_labels`] and [`put_label`] name a graph's ports, and
+//! answer that is due to it whatever is asked about its graph (`IsAdmissionOf`); [`graph_labels`] names a graph's ports, and
 //! [`unfit_graph_answer`] answers a graph whose tasks do not fit.
 #![tactic(auto)]
 
 mod admission;
 mod calls;
+mod judging;
 mod labels;
 mod lines;
 mod reading;
-mod stage;
 mod unfit;
 
 pub use admission::{Admission, admit};

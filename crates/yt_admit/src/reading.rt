@@ -1,6 +1,7 @@
 //! From the text of a graph to its tree, or to the answer to a text without one.
 ghost use Rattle.std.specs.Prelude.{◌≤◌, IfOk, length};
-ghost use Rattle.yt_admit.specs.Admissions.{IsReadingOf, most_text_bytes};
+ghost use Rattle.yt_base.specs.Limits.{most_text_bytes};
+ghost use Rattle.yt_admit.specs.Admissions.{IsReadingOf};
 
 use crate::calls::has_call;
 use crate::lines::{lex_line, syntax_line};

@@ -10,7 +10,7 @@ use crate::labels::graph_labels;
 use std::alloc::{AllocError, Global};
 use yt_answer::Answer;
 use yt_fits::Unfit;
-use yt_fitting::unfit_answer;
+use yt_fitting::{Kind, unfit_answer};
 use yt_graph::Graph;
 use yt_set::TaskSet;
 
@@ -27,5 +27,5 @@ pub fn unfit_graph_answer(
     ensures text { IfOk result (λ a. IsUnfitText (codes "graph") (labels_of (graph_tree graph.now)) (tasks_of (graph_tree graph.now)) why.now a.text) }
 {
     let labels = graph_labels(alloc, graph)?;
-    unfit_answer(alloc, b"graph", labels.as_slice(), set, why)
+    unfit_answer(alloc, Kind::Graph, labels.as_slice(), set, why)
 }

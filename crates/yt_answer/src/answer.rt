@@ -8,7 +8,7 @@ use std::alloc::{AllocError, Global};
 use yt_base::Text;
 
 /// What is written where something isn't built yet.
-const NOT_YET: &[u8] = b"notyet\n";
+pub const NOT_YET: &[u8] = b"notyet\n";
 
 /// A verdict and the text that goes with it.
 #[derive(Drop)]

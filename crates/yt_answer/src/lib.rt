@@ -10,6 +10,6 @@ mod answer;
 mod status;
 mod verdict;
 
-pub use answer::{Answer, not_yet};
+pub use answer::{Answer, NOT_YET, not_yet};
 pub use status::Status;
 pub use verdict::Verdict;

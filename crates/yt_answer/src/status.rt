@@ -25,8 +25,7 @@ pub enum Status {
     NoMemory,
     /// A file or a pattern is too long.
     Long,
-    /// The words, the graph or the trace have a form that isn't built yet; or the load fits, but a task leaves too little room for
-    /// others, and what shows it isn't built yet.
+    /// The words, the graph or the trace have a form that isn't built yet.
     NotYet,
 }
 

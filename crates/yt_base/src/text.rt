@@ -30,13 +30,6 @@ impl Text {
         }
     }
 
-    /// Takes over the bytes of a `Vec`, with no memory.
-    pub fn from_bytes(bytes: Vec<u8>) -> Self
-        ensures { result ≡ bytes.items }
-    {
-        Text { bytes }
-    }
-
     /// The bytes so far.
     pub fn as_slice(&self) -> &[u8]
         ensures { result.now ≡ self.now }

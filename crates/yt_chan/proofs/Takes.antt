@@ -16,7 +16,7 @@ use Rattle.yt_chan.specs.Inside.Heads.{IsFirst, comes_before}
 use Rattle.yt_chan.specs.Inside.Queues.{state_of}
 use Rattle.yt_chan.specs.Inside.Next.{Adds, AreHeads, AreNext, due_of}
 use Rattle.yt_chan.specs.Inside.Sound.{CanArrive, StartsHandlingIn, IsPut, IsSound, IsThere, arrived, closed_at, no_inbox, inbox_of}
-use Rattle.yt_chan.specs.State.{ChannelState, IsDue, IsNext, NoneIsLate, Waits}
+use Rattle.yt_chan.specs.State.{ChannelState, IsArriving, IsNext, NoneIsLate, Waits}
 use Rattle.yt_chan.specs.Pending.{Pending}
 use Rattle.yt_chan.proofs.Delivers.{arrived_at, can_arrive, delivers, due_head, head_first, in_ports, next_is_due}
 use Rattle.yt_chan.proofs.HeadOrder.{before_is}
@@ -67,7 +67,7 @@ pub is_next : (widths : List ℕ) (wires : List Wire) (queues : List WireQueue) 
     AreHeads (state_of widths wires queues jobs ports outputs) heads → NoneIsLate (state_of widths wires queues jobs ports outputs) now → IsFirst heads head → head.time ≡ now →
     IsNext (state_of widths wires queues jobs ports outputs) now head.target
 is_next widths wires queues jobs ports outputs heads head now is are none first time = record {
-  due = next_is_due widths wires queues jobs ports outputs is.long now head.target (comes widths wires queues jobs ports outputs heads head now is are first time).due;
+  arrives = next_is_due widths wires queues jobs ports outputs is.long now head.target (comes widths wires queues jobs ports outputs heads head now is are first time).due;
   first = λ other before due.
       let e = due_is widths wires queues jobs ports outputs is.long other ∙ due_head widths wires queues jobs ports outputs is now none other due in
       let in' = are.all other now e in
@@ -127,7 +127,7 @@ heads_left old new heads left all head now are more delivers adds = record {
 -- where there is no head, or the first is of another tick, no message is due
 pub none_due : (widths : List ℕ) (wires : List Wire) (queues : List WireQueue) (jobs : List PortJob) (ports outputs : List Inbox) (heads : List Head) (now : ℕ) → IsSound widths wires queues jobs ports outputs →
     AreHeads (state_of widths wires queues jobs ports outputs) heads → NoneIsLate (state_of widths wires queues jobs ports outputs) now →
-    (heads ≡ []) ⊎ ((first : Head) × IsFirst heads first × (first.time ≡ now → ⊥)) → (target : Arrived) → IsDue (state_of widths wires queues jobs ports outputs) now target → ⊥
+    (heads ≡ []) ⊎ ((first : Head) × IsFirst heads first × (first.time ≡ now → ⊥)) → (target : Arrived) → IsArriving (state_of widths wires queues jobs ports outputs) now target → ⊥
 none_due widths wires queues jobs ports outputs heads now is are none either target due =
     let view = state_of widths wires queues jobs ports outputs in
     let e = due_is widths wires queues jobs ports outputs is.long target ∙ due_head widths wires queues jobs ports outputs is now none target due in

@@ -76,9 +76,9 @@ IsOfOneJob state k =
 abbrev pub Waits : ChannelState → Pending → Type 0
 Waits state m = (target : Arrived) × Contains (waits_at state target) m
 
--- a message that waits for a target is due at a tick
-abbrev pub IsDue : ChannelState → ℕ → Arrived → Type 0
-IsDue state now target = (m : Pending) × Contains (waits_at state target) m × (m.time ≡ now)
+-- a message that waits for a target arrives there at a tick
+abbrev pub IsArriving : ChannelState → ℕ → Arrived → Type 0
+IsArriving state now target = (m : Pending) × Contains (waits_at state target) m × (m.time ≡ now)
 
 -- the order of targets: ports by number, then outputs by number
 abbrev pub ComesBefore : Arrived → Arrived → Type 0
@@ -87,10 +87,10 @@ ComesBefore (Port a) (Output b) = ⊤
 ComesBefore (Output a) (Port b) = ⊥
 ComesBefore (Output a) (Output b) = a < b
 
--- a target is the first for which a message is due at a tick
+-- a target is the first at which a message arrives at a tick
 pub record IsNext (state : ChannelState) (now : ℕ) (target : Arrived) : Type 0 where
-  pub due : IsDue state now target
-  pub first : (other : Arrived) → ComesBefore other target → IsDue state now other → ⊥
+  pub arrives : IsArriving state now target
+  pub first : (other : Arrived) → ComesBefore other target → IsArriving state now other → ⊥
 
 -- a job of a port arrives at least a period after the port's last closed one
 abbrev pub IsApart : ChannelState → ℕ → ℕ → Type 0

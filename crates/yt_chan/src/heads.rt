@@ -5,12 +5,13 @@ ghost use Rattle.yt_chan.specs.declared.heads.Head.{Head};
 ghost use Rattle.yt_order.specs.Falling.{HasOneMore};
 ghost use Rattle.yt_chan.specs.Inside.Heads.{comes_before, target_before, HasAlso, IsFalling, IsFirst, IsPlaceFor, IsWithin};
 
+use crate::limits::{MOST_OUTPUTS, MOST_PORTS};
 use crate::target::Arrived;
 use std::alloc::{AllocError, Global};
 use std::marker::Model;
 
-/// How many heads there are at most: one for each number of a port up to 64 and of an output up to 16, with 0.
-const ROOM: usize = 82;
+/// How many heads there are at most: one for each number of a port and of an output, with 0.
+const ROOM: usize = MOST_PORTS as usize + 1 + MOST_OUTPUTS as usize + 1;
 
 /// A target for which a message waits, and the tick at which the first of its messages is due.
 #[derive(Clone, Copy)]

@@ -1,5 +1,6 @@
 //! What a target has.
 ghost use Rattle.std.specs.Prelude.{◌≡◌, ◌+◌, ◌≤◌, ◌^◌, ◌<◌, [], length, true, false};
+ghost use Rattle.yt_chan.specs.Limits.{most_width};
 ghost use Rattle.yt_chan.specs.Inside.Sound.{no_inbox};
 
 use crate::message::Message;
@@ -29,7 +30,7 @@ impl Inbox {
 
     /// Places a message here.
     pub(crate) fn put(&mut self, values: &[i64])
-        requires { length values.now ≤ 8 }
+        requires { length values.now ≤ most_width }
         ensures { self.new ≡ record self.old { filled = true; values = values.now } }
     {
         self.values.set(values);

@@ -2,15 +2,27 @@
 ghost use Rattle.std.specs.Prelude.{◌≡◌, ℕ, ◌+◌, ◌*◌, ◌<◌, ◌≤◌, length, true, slice_index_or};
 ghost use Rattle.yt_chan.specs.declared.target.Arrived.{Arrived};
 ghost use Rattle.yt_chan.specs.Inside.Next.{Adds, AmongOutputs, AmongPorts, AreNext, next_at, targets_of};
-ghost use Rattle.yt_chan.specs.Inside.Sound.{arrived, IsTable, AreReadable, CanArrive, StartsHandlingIn, IsPut, IsThere, inbox_of};
+ghost use Rattle.yt_chan.specs.Limits.{most_outs};
+ghost use Rattle.yt_chan.specs.Inside.Sound.{arrived, IsTable, AreReadable, CanArrive, StartsHandlingIn, IsPut, IsThere, inbox_of, table_place};
 ghost use Rattle.yt_chan.specs.Wires.{feeds, wire_to, wire_at};
 
 use crate::heads::{Head, Heads};
 use crate::inbox::Inbox;
+use crate::limits::MOST_OUTS;
 use crate::port::PortJob;
 use crate::queue::WireQueue;
 use crate::target::Arrived;
-use crate::wire::{OUTS, Wire, table_at};
+use crate::wire::{Wire, table_at};
+
+/// What tells the next message of each target: the wires and their queues, by place from 0, and what each port and each output has, by
+/// number.
+#[derive(Clone, Copy)]
+pub(crate) struct Kept<'a> {
+    pub(crate) wires: &'a [Wire],
+    pub(crate) queues: &'a [WireQueue],
+    pub(crate) ports: &'a [Inbox],
+    pub(crate) outputs: &'a [Inbox],
+}
 
 /// What a target has.
 fn inbox_of<'a>(ports: &'a [Inbox], outputs: &'a [Inbox], target: Arrived) -> &'a Inbox
@@ -24,18 +36,13 @@ fn inbox_of<'a>(ports: &'a [Inbox], outputs: &'a [Inbox], target: Arrived) -> &'
 }
 
 /// The tick at which the next message of a target is due; `None` where none waits.
-fn time_of(
-    wires: &[Wire],
-    queues: &[WireQueue],
-    ports: &[Inbox],
-    outputs: &[Inbox],
-    target: Arrived,
-) -> Option<u64>
-    requires readable { AreReadable wires.now queues.now ports.now outputs.now }
-    requires there { IsThere ports.now outputs.now target }
-    ensures { result ≡ next_at (targets_of wires.now queues.now ports.now outputs.now) target }
+fn time_of(kept: &Kept<'_>, target: Arrived) -> Option<u64>
+    requires readable { AreReadable kept.now.wires.now kept.now.queues.now kept.now.ports.now kept.now.outputs.now }
+    requires there { IsThere kept.now.ports.now kept.now.outputs.now target }
+    ensures { result ≡ next_at (targets_of kept.now.wires.now kept.now.queues.now kept.now.ports.now kept.now.outputs.now) target }
 {
-    let inbox = inbox_of(ports, outputs, target);
+    let (wires, queues) = (kept.wires, kept.queues);
+    let inbox = inbox_of(kept.ports, kept.outputs, target);
     if inbox.wire >= queues.len() {
         return None;
     }
@@ -49,115 +56,67 @@ fn time_of(
 }
 
 /// Adds the head of a target, where a message waits for it and its head isn't there yet.
-pub(crate) fn add_next(
-    wires: &[Wire],
-    queues: &[WireQueue],
-    ports: &[Inbox],
-    outputs: &[Inbox],
-    target: Arrived,
-    heads: &mut Heads,
-)
-    requires readable { AreReadable wires.now queues.now ports.now outputs.now }
-    requires there { IsThere ports.now outputs.now target }
-    requires next { AreNext (targets_of wires.now queues.now ports.now outputs.now) heads.old }
-    ensures { Adds (targets_of wires.now queues.now ports.now outputs.now) heads.old heads.new (λ t. t ≡ target) }
+pub(crate) fn add_next(kept: &Kept<'_>, target: Arrived, heads: &mut Heads)
+    requires readable { AreReadable kept.now.wires.now kept.now.queues.now kept.now.ports.now kept.now.outputs.now }
+    requires there { IsThere kept.now.ports.now kept.now.outputs.now target }
+    requires next { AreNext (targets_of kept.now.wires.now kept.now.queues.now kept.now.ports.now kept.now.outputs.now) heads.old }
+    ensures { Adds (targets_of kept.now.wires.now kept.now.queues.now kept.now.ports.now kept.now.outputs.now) heads.old heads.new (λ t. t ≡ target) }
 {
-    if let Some(time) = time_of(wires, queues, ports, outputs, target) {
+    if let Some(time) = time_of(kept, target) {
         heads.add(Head { time, target });
     }
 }
 
 /// Adds the heads of these ports.
-fn add_ports(
-    wires: &[Wire],
-    queues: &[WireQueue],
-    ports: &[Inbox],
-    outputs: &[Inbox],
-    numbers: &[u32],
-    heads: &mut Heads,
-)
-    requires readable { AreReadable wires.now queues.now ports.now outputs.now }
-    requires there { (k : ℕ) → k < length numbers.now → slice_index_or numbers.now k 0 < length ports.now }
-    requires next { AreNext (targets_of wires.now queues.now ports.now outputs.now) heads.old }
-    ensures { Adds (targets_of wires.now queues.now ports.now outputs.now) heads.old heads.new (AmongPorts numbers.now (length numbers.now)) }
+fn add_ports(kept: &Kept<'_>, numbers: &[u32], heads: &mut Heads)
+    requires readable { AreReadable kept.now.wires.now kept.now.queues.now kept.now.ports.now kept.now.outputs.now }
+    requires there { (k : ℕ) → k < length numbers.now → slice_index_or numbers.now k 0 < length kept.now.ports.now }
+    requires next { AreNext (targets_of kept.now.wires.now kept.now.queues.now kept.now.ports.now kept.now.outputs.now) heads.old }
+    ensures { Adds (targets_of kept.now.wires.now kept.now.queues.now kept.now.ports.now kept.now.outputs.now) heads.old heads.new (AmongPorts numbers.now (length numbers.now)) }
 {
     for number in numbers {
-        add_next(wires, queues, ports, outputs, Arrived::Port(*number), heads);
+        add_next(kept, Arrived::Port(*number), heads);
     }
 }
 
 /// Adds the heads of these outputs.
-fn add_outputs(
-    wires: &[Wire],
-    queues: &[WireQueue],
-    ports: &[Inbox],
-    outputs: &[Inbox],
-    numbers: &[u32],
-    heads: &mut Heads,
-)
-    requires readable { AreReadable wires.now queues.now ports.now outputs.now }
-    requires there { (k : ℕ) → k < length numbers.now → slice_index_or numbers.now k 0 < length outputs.now }
-    requires next { AreNext (targets_of wires.now queues.now ports.now outputs.now) heads.old }
-    ensures { Adds (targets_of wires.now queues.now ports.now outputs.now) heads.old heads.new (AmongOutputs numbers.now (length numbers.now)) }
+fn add_outputs(kept: &Kept<'_>, numbers: &[u32], heads: &mut Heads)
+    requires readable { AreReadable kept.now.wires.now kept.now.queues.now kept.now.ports.now kept.now.outputs.now }
+    requires there { (k : ℕ) → k < length numbers.now → slice_index_or numbers.now k 0 < length kept.now.outputs.now }
+    requires next { AreNext (targets_of kept.now.wires.now kept.now.queues.now kept.now.ports.now kept.now.outputs.now) heads.old }
+    ensures { Adds (targets_of kept.now.wires.now kept.now.queues.now kept.now.ports.now kept.now.outputs.now) heads.old heads.new (AmongOutputs numbers.now (length numbers.now)) }
 {
     for number in numbers {
-        add_next(
-            wires,
-            queues,
-            ports,
-            outputs,
-            Arrived::Output(*number),
-            heads,
-        );
+        add_next(kept, Arrived::Output(*number), heads);
     }
 }
 
 /// Adds the heads of the targets of the wire at place `k`, counted from 0.
-fn add_wire(
-    wires: &[Wire],
-    queues: &[WireQueue],
-    ports: &[Inbox],
-    outputs: &[Inbox],
-    k: usize,
-    heads: &mut Heads,
-)
-    requires readable { AreReadable wires.now queues.now ports.now outputs.now }
-    requires there { k < length wires.now }
-    requires next { AreNext (targets_of wires.now queues.now ports.now outputs.now) heads.old }
-    ensures { Adds (targets_of wires.now queues.now ports.now outputs.now) heads.old heads.new (λ t. feeds (wire_at wires.now k) t ≡ true) }
+fn add_wire(kept: &Kept<'_>, k: usize, heads: &mut Heads)
+    requires readable { AreReadable kept.now.wires.now kept.now.queues.now kept.now.ports.now kept.now.outputs.now }
+    requires there { k < length kept.now.wires.now }
+    requires next { AreNext (targets_of kept.now.wires.now kept.now.queues.now kept.now.ports.now kept.now.outputs.now) heads.old }
+    ensures { Adds (targets_of kept.now.wires.now kept.now.queues.now kept.now.ports.now kept.now.outputs.now) heads.old heads.new (λ t. feeds (wire_at kept.now.wires.now k) t ≡ true) }
 {
+    let wires = kept.wires;
     let wire = &wires[k];
-    add_ports(wires, queues, ports, outputs, wire.ports.as_slice(), heads);
-    add_outputs(
-        wires,
-        queues,
-        ports,
-        outputs,
-        wire.outputs.as_slice(),
-        heads,
-    );
+    add_ports(kept, wire.ports.as_slice(), heads);
+    add_outputs(kept, wire.outputs.as_slice(), heads);
 }
 
 /// Adds the heads of all targets that the wires of a port feed.
-pub(crate) fn add_job(
-    wires: &[Wire],
-    table: &[usize],
-    queues: &[WireQueue],
-    ports: &[Inbox],
-    outputs: &[Inbox],
-    task: u32,
-    heads: &mut Heads,
-)
-    requires readable { AreReadable wires.now queues.now ports.now outputs.now }
-    requires table { IsTable wires.now table.now }
-    requires there { (1 ≤ task) × (9 * task + 8 < length table.now) }
-    requires next { AreNext (targets_of wires.now queues.now ports.now outputs.now) heads.old }
-    ensures { Adds (targets_of wires.now queues.now ports.now outputs.now) heads.old heads.new (λ t. (wire_at wires.now (wire_to wires.now t)).port ≡ task) }
+pub(crate) fn add_job(kept: &Kept<'_>, table: &[usize], task: u32, heads: &mut Heads)
+    requires readable { AreReadable kept.now.wires.now kept.now.queues.now kept.now.ports.now kept.now.outputs.now }
+    requires table { IsTable kept.now.wires.now table.now }
+    requires there { (1 ≤ task) × (table_place task most_outs < length table.now) }
+    requires next { AreNext (targets_of kept.now.wires.now kept.now.queues.now kept.now.ports.now kept.now.outputs.now) heads.old }
+    ensures { Adds (targets_of kept.now.wires.now kept.now.queues.now kept.now.ports.now kept.now.outputs.now) heads.old heads.new (λ t. (wire_at kept.now.wires.now (wire_to kept.now.wires.now t)).port ≡ task) }
 {
-    for out in 1..OUTS + 1 {
+    let wires = kept.wires;
+    for out in 1..MOST_OUTS + 1 {
         let k = table_at(table, task, out);
         if k < wires.len() {
-            add_wire(wires, queues, ports, outputs, k, heads);
+            add_wire(kept, k, heads);
         }
     }
 }

@@ -1,10 +1,12 @@
 //! Ports.
 
-/// Whether a port's message is in handling, and the port's last closed job: its number, 0 where none was closed, and the tick of
-/// its arrival. No code reads this: it is what callers' conditions speak of.
+/// What callers' conditions say of a port; no code reads it.
 #[derive(Clone, Copy, Debug, PartialEq, Eq)]
-pub(crate) struct PortJob {
-    pub(crate) in_handling: bool,
-    pub(crate) number: u32,
-    pub(crate) arrival: u64,
+pub struct PortJob {
+    /// Whether the port's message is in handling.
+    pub in_handling: bool,
+    /// The number of the port's last closed job, 0 where none was closed.
+    pub number: u32,
+    /// The tick at which that job arrived.
+    pub arrival: u64,
 }

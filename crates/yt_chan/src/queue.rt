@@ -1,6 +1,6 @@
 //! A wire's messages, in two banks: one waits while the other fills.
 ghost use Rattle.std.specs.Prelude.{◌≡◌, ◌+◌, ◌<◌, ◌≤◌, ◌^◌, [], length, slice_index_or, false, Bool, IfOk};
-ghost use Rattle.yt_chan.specs.Limits.{most_base, most_gap, most_sends};
+ghost use Rattle.yt_chan.specs.Limits.{most_base, most_gap, most_sends, most_width};
 ghost use Rattle.yt_chan.specs.Inside.Banks.{no_batch};
 ghost use Rattle.yt_chan.specs.Inside.Queues.{closed_by, count, message_at, no_queue, sent, time_at};
 
@@ -35,7 +35,7 @@ impl WireQueue {
     /// messages of the older bank where the newer one waits.
     #[tactic(auto, unfolding(crate::specs::Inside::Queues::sent))]
     pub(crate) fn send(&mut self, values: &[i64])
-        requires few { length values.now ≤ 8 }
+        requires few { length values.now ≤ most_width }
         requires counted { self.old.first + length self.old.older.messages < 2 ^ 64 }
         requires fresh { 0 < self.old.older.room }
         requires room { self.old.closed ≡ false → length self.old.newer.messages < self.old.newer.room }
@@ -101,7 +101,7 @@ impl WireQueue {
     pub(crate) fn values(&self, n: usize) -> &[i64]
         requires { n < length self.now.older.messages + length self.now.newer.messages }
         ensures value { result.now ≡ message_at self.now n }
-        ensures few { length result.now ≤ 8 }
+        ensures few { length result.now ≤ most_width }
     {
         let older = self.older.len();
         if n < older {

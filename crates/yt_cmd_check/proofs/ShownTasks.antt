@@ -5,7 +5,7 @@ use Rattle.std.specs.List.{list_all}
 use Rattle.std.proofs.lemmas.Bool.{and_parts, leb-true}
 use Rattle.std.proofs.lemmas.List.{length-map}
 use Rattle.std.proofs.lemmas.List.Elements.{All-get_or}
-use Rattle.std.proofs.lemmas.Option.{slice_get-map, slice_get-get_or, slice_get_within}
+use Rattle.std.proofs.lemmas.Option.{slice_get-map, slice_get-get_or, slice_get_within, unwrap_or-slice_get}
 use Rattle.yt_list.specs.Numbered.{numbered_or}
 use Rattle.yt_graph.specs.Labels.{label_of, labels_of, no_port}
 use Rattle.yt_graph.specs.Names.{begins_as_word, is_name, is_word_byte}
@@ -34,12 +34,12 @@ same_some : {A : Type 0} (a b : A) → ◌≡◌ {A = Option A} (Some a) (Some b
 same_some a b e = cc
 
 -- the port of a task
-abbrev port_of : GraphTree → ℕ → PortTree
-port_of g n = get_or g.ports n no_port
+abbrev port_at : GraphTree → ℕ → PortTree
+port_at g n = get_or g.ports n no_port
 
-task_at : (g : GraphTree) (n : ℕ) → n < length g.ports → (t : Task) → slice_get (tasks_of g) n ≡ Some t → (port_of g n).group ≡ t.resource
+task_at : (g : GraphTree) (n : ℕ) → n < length g.ports → (t : Task) → slice_get (tasks_of g) n ≡ Some t → (port_at g n).group ≡ t.resource
 task_at g n there t at =
-    let p = port_of g n in
+    let p = port_at g n in
     let here = slice_get-map {A = PortTree} {B = Task} (task_of g) g.ports n in
     let found = slice_get-get_or g.ports n no_port there in
     ap (λ (x : Task). x.resource) (same_some (task_of g p) t (sym (rw found at here) ∙ at))
@@ -50,7 +50,7 @@ within_ports g n t at =
     let count = length-map g.ports (task_of g) in
     omega (arith, count, below)
 
-fine_port : (g : GraphTree) (n : ℕ) → IsWellFormed g → n < length g.ports → IsFinePort g (port_of g n)
+fine_port : (g : GraphTree) (n : ℕ) → IsWellFormed g → n < length g.ports → IsFinePort g (port_at g n)
 fine_port g n fine there = All-get_or (IsFinePort g) g.ports n no_port there fine.each_port
 
 within_groups : (g : GraphTree) (p : PortTree) (b : Bool) → IsFineGroup g p b → p.group ≤ length g.groups
@@ -61,7 +61,7 @@ within_groups g p false h = omega (arith, h)
 pub resource_there : (g : GraphTree) (n : ℕ) (t : Task) → IsWellFormed g → slice_get (tasks_of g) n ≡ Some t → t.resource ≤ length g.groups
 resource_there g n t fine at =
     let there = within_ports g n t at in
-    let p = port_of g n in
+    let p = port_at g n in
     let port = fine_port g n fine there in
     let group = within_groups g p (block_uses_var p.body) port.11 in
     subst (λ r. r ≤ length g.groups) (task_at g n there t at) group
@@ -71,7 +71,7 @@ pub label_short : (g : GraphTree) (n : ℕ) (label : List ℕ) → IsWellFormed 
 label_short g n label fine at =
     let below = slice_get_within (labels_of g) n label at in
     let there : n < length g.ports = omega (arith, length-map g.ports label_of) in
-    let p = port_of g n in
+    let p = port_at g n in
     let port = fine_port g n fine there in
     let found = slice_get-get_or g.ports n no_port there in
     let here = slice_get-map {A = PortTree} {B = List ℕ} label_of g.ports n in
@@ -83,17 +83,17 @@ label_short g n label fine at =
 
 -- so is its resource's, which is empty where there is none
 
-group_at : (groups : List (List ℕ)) (r : ℕ) → numbered_or ([] ∷ groups) (suc r + 1) [] ≡ get_or groups r []
-group_at groups r = let less : suc r + 1 - 1 ≡ suc r = omega arith in ap (λ k. get_or ([] ∷ groups) k []) less
+group_at : (groups : List (List ℕ)) (r : ℕ) → numbered_or groups (suc r) [] ≡ get_or groups r []
+group_at groups r = unwrap_or-slice_get groups r []
 
-pub group_short : (g : GraphTree) (resource : ℕ) → IsWellFormed g → resource ≤ length g.groups → length (numbered_or ([] ∷ g.groups) (resource + 1) []) ≤ 65
+pub group_short : (g : GraphTree) (resource : ℕ) → IsWellFormed g → resource ≤ length g.groups → length (numbered_or g.groups resource []) ≤ 65
 group_short g zero fine there = omega arith
 group_short g (suc r) fine there =
     let name : IsTrue (is_name (get_or g.groups r [])) = All-get_or (λ name. IsTrue (is_name name)) g.groups r [] (omega arith) fine.group_names in
     let short = short_name (get_or g.groups r []) name in
     subst (λ w. length w ≤ 65) (sym (group_at g.groups r)) (omega (arith, short))
 
-pub group_none : (g : GraphTree) (resource : ℕ) → IsWellFormed g → resource ≤ length g.groups → (numbered_or ([] ∷ g.groups) (resource + 1) [] ≡ []) ↔ (resource ≡ 0)
+pub group_none : (g : GraphTree) (resource : ℕ) → IsWellFormed g → resource ≤ length g.groups → (numbered_or g.groups resource [] ≡ []) ↔ (resource ≡ 0)
 group_none g zero fine there = ((λ e. refl), (λ e. refl))
 group_none g (suc r) fine there =
     let name : IsTrue (is_name (get_or g.groups r [])) = All-get_or (λ name. IsTrue (is_name name)) g.groups r [] (omega arith) fine.group_names in

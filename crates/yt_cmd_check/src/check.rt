@@ -1,6 +1,6 @@
 //! Whether the tasks of a graph fit.
 ghost use Rattle.std.specs.Prelude.{◌≤◌, IfOk, length};
-ghost use Rattle.yt_admit.specs.Admissions.{most_text_bytes};
+ghost use Rattle.yt_base.specs.Limits.{most_text_bytes};
 ghost use Rattle.yt_answer.specs.Due.{IsDue};
 ghost use Rattle.yt_cmd_check.specs.Check.{IsCheckText, check_verdict};
 
@@ -10,7 +10,7 @@ use yt_answer::Answer;
 use yt_fitting::accepted_answer;
 
 /// Whether the tasks of the graph that these bytes say fit, with their load; or why they don't; or the line of the graph's first fault; or
-/// `notyet`, where an operator is called, or the tasks' load fits and one of them leaves too little room. `Err` comes where memory ran out.
+/// `notyet`, where an operator is called. `Err` comes where memory ran out.
 pub fn check_answer(alloc: Global, bytes: &[u8]) -> Result<Answer, AllocError>
     requires { length bytes.now ≤ most_text_bytes }
     ensures { IfOk result (λ a. IsDue (check_verdict {graph = bytes.now}) (IsCheckText {graph = bytes.now}) a.verdict a.text) }

@@ -1,5 +1,5 @@
 //! What is printed of a graph's tasks.
-ghost use Rattle.std.specs.Prelude.{◌≡◌, ◌+◌, ◌≤◌, [], ◌∷◌, IfOk, length};
+ghost use Rattle.std.specs.Prelude.{◌≡◌, [], IfOk};
 ghost use Rattle.yt_graph.specs.Picture.{graph_tree};
 ghost use Rattle.yt_graph.specs.WellFormed.{IsWellFormed};
 ghost use Rattle.yt_rates.specs.Tables.{tasks_of};
@@ -35,13 +35,15 @@ pub(crate) fn tasks_text(alloc: Global, graph: &Graph, set: &TaskSet) -> Result<
     Ok(text)
 }
 
-/// The name of a resource of a graph, by its number from 1; empty for 0, which is none.
+/// The name of a resource of a graph, by its number from 1; empty where there is none, as for 0.
 fn group_name(graph: &Graph, group: u32) -> &[u8]
-    requires { group ≤ length (graph_tree graph.now).groups }
-    ensures { result.now ≡ numbered_or ([] ∷ (graph_tree graph.now).groups) (group + 1) [] }
+    ensures { result.now ≡ numbered_or (graph_tree graph.now).groups group [] }
 {
     if group == 0 {
         return b"";
     }
-    graph.groups.at(group as usize - 1).as_slice()
+    match graph.groups.as_slice().get(group as usize - 1) {
+        Some(name) => name.as_slice(),
+        None => b"",
+    }
 }

@@ -1,6 +1,6 @@
 //! The canonical text of a graph, or why it has none.
 ghost use Rattle.std.specs.Prelude.{◌≤◌, IfOk, length};
-ghost use Rattle.yt_admit.specs.Admissions.{most_text_bytes};
+ghost use Rattle.yt_base.specs.Limits.{most_text_bytes};
 ghost use Rattle.yt_answer.specs.Due.{IsDue};
 ghost use Rattle.yt_cmd_form.specs.Form.{IsFormText, form_verdict};
 

@@ -7,7 +7,7 @@ use Rattle.yt_log.specs.PlanText.{plan_of}
 use Rattle.yt_log.proofs.Lemmas.{HasFault, no_plan_and_fault, plan_or_fault}
 use Rattle.yt_set.specs.NamedTasks.{NamedTasks}
 use Rattle.yt_cmd_play.specs.Causes.{PlanCause, PlayCause, kept, missed, plan_at_fault, plan_verdict, play_verdict}
-use Rattle.yt_cmd_play.specs.Plays.{PlayMisses}
+use Rattle.yt_playing.specs.Plays.{PlayMisses}
 
 one_list : (set : NamedTasks) (plan : List ℕ) (a b : List PlanItem) → plan_of set plan ≡ Ok a → plan_of set plan ≡ Ok b → a ≡ b
 one_list set plan a b p q =
@@ -20,13 +20,13 @@ not_mixed set plan a b is too misses keeps = keeps (subst (λ (items : List Plan
 
 -- the text of a plan for a set has one verdict
 pub one_plan : (set : NamedTasks) (plan : List ℕ) (a b : PlanCause set plan) → plan_verdict a ≡ plan_verdict b
-one_plan set plan (plan_at_fault f is told) (plan_at_fault g too more) = refl
-one_plan set plan (plan_at_fault f is told) (missed b too h) = absurd (no_plan_and_fault set plan b f too is told)
-one_plan set plan (plan_at_fault f is told) (kept b too h) = absurd (no_plan_and_fault set plan b f too is told)
-one_plan set plan (missed a is h) (plan_at_fault g too told) = absurd (no_plan_and_fault set plan a g is too told)
+one_plan set plan (plan_at_fault f is not_memory) (plan_at_fault g too no_more) = refl
+one_plan set plan (plan_at_fault f is not_memory) (missed b too h) = absurd (no_plan_and_fault set plan b f too is not_memory)
+one_plan set plan (plan_at_fault f is not_memory) (kept b too h) = absurd (no_plan_and_fault set plan b f too is not_memory)
+one_plan set plan (missed a is h) (plan_at_fault g too not_memory) = absurd (no_plan_and_fault set plan a g is too not_memory)
 one_plan set plan (missed a is h) (missed b too k) = refl
 one_plan set plan (missed a is h) (kept b too k) = absurd (not_mixed set plan a b is too h k)
-one_plan set plan (kept a is h) (plan_at_fault g too told) = absurd (no_plan_and_fault set plan a g is too told)
+one_plan set plan (kept a is h) (plan_at_fault g too not_memory) = absurd (no_plan_and_fault set plan a g is too not_memory)
 one_plan set plan (kept a is h) (missed b too k) = absurd (not_mixed set plan b a too is k h)
 one_plan set plan (kept a is h) (kept b too k) = refl
 

@@ -1,3 +1,2 @@
 pub mod Lemmas
-mod CutSegments
-mod Plays
+mod Plans

@@ -6,11 +6,11 @@ use Rattle.yt_fitting.specs.Sets.{IsSetText, SetCause, set_verdict}
 use Rattle.yt_log.specs.declared.plan.PlanItem.{PlanItem}
 use Rattle.yt_log.specs.declared.read.PlanFault.{PlanFault}
 use Rattle.yt_log.specs.declared.read.PlanFault.TheVariants.{Memory}
-use Rattle.yt_log.specs.PlanReading.{IsFaultOf}
+use Rattle.yt_log.specs.PlanFaults.{IsFaultOf}
 use Rattle.yt_log.specs.PlanText.{plan_of}
 use Rattle.yt_set.specs.NamedTasks.{NamedTasks}
 use Rattle.yt_cmd_play.specs.Lines.{IsPlanLine}
-use Rattle.yt_cmd_play.specs.Plays.{PlayMisses, ShowsAll, ShowsMiss}
+use Rattle.yt_playing.specs.Plays.{PlayMisses, ShowsAll, ShowsMiss}
 
 -- why a verdict on the text of a plan for a set comes: it has this first line at fault; or it says these items, which are played, with
 -- a miss or without
@@ -21,13 +21,13 @@ pub data PlanCause (set : NamedTasks) (plan : List ℕ) : Type 0 where
 
 -- the verdict
 abbrev pub plan_verdict : {set : NamedTasks} {plan : List ℕ} → PlanCause set plan → Verdict
-plan_verdict (plan_at_fault fault is told) = Trace
+plan_verdict (plan_at_fault fault is not_memory) = Trace
 plan_verdict (missed items is misses) = Missed
 plan_verdict (kept items is keeps) = Done
 
 -- its text
 abbrev pub IsPlanText : {set : NamedTasks} {plan : List ℕ} → PlanCause set plan → List ℕ → Type 0
-IsPlanText (plan_at_fault fault is told) text = IsPlanLine text fault
+IsPlanText (plan_at_fault fault is not_memory) text = IsPlanLine text fault
 IsPlanText {set} (missed items is misses) text = ShowsMiss set items text
 IsPlanText {set} (kept items is keeps) text = ShowsAll set items text
 

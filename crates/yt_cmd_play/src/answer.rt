@@ -1,25 +1,23 @@
 //! What is due to a play of the text of a plan.
-ghost use Rattle.std.specs.Prelude.{◌≡◌, ◌≤◌, ◌<◌, ◌^◌, ℕ, List, [], ◌∷◌, ◌++◌, IfOk, Ok, codes, decimal, length};
+ghost use Rattle.std.specs.Prelude.{◌≡◌, ◌≤◌, ◌<◌, ◌^◌, [], ◌∷◌, ◌++◌, IfOk, codes, decimal, length};
 ghost use Rattle.yt_answer.specs.Due.{IsDue};
-ghost use Rattle.yt_log.specs.Plan.{IsLegalPlan};
-ghost use Rattle.yt_log.specs.PlanText.{plan_of};
+ghost use Rattle.yt_base.specs.Limits.{most_text_bytes};
 ghost use Rattle.yt_set.specs.Tasks.{IsTaskSet};
 ghost use Rattle.yt_cmd_play.specs.Causes.{IsPlanText, IsPlayText, plan_verdict, play_verdict};
 ghost use Rattle.yt_cmd_play.specs.Lines.{IsPlanLine, plan_line};
 
-use crate::text::{kept_text, missed_text};
 use std::alloc::{AllocError, Global};
 use yt_answer::{Answer, Verdict};
 use yt_base::Text;
-use yt_exec::play;
 use yt_fitting::{SetReading, fault_line, read_named_set};
-use yt_log::{Plan, PlanFault, first_miss, read_plan};
+use yt_log::{PlanFault, read_plan};
+use yt_playing::played_answer;
 use yt_set::NamedSet;
 
 /// What is due to a play, by the texts of the set and of the plan. `Err` comes where memory ran out.
 pub fn play_answer(alloc: Global, set: &[u8], plan: &[u8]) -> Result<Answer, AllocError>
     requires set { length set.now < 2 ^ 32 }
-    requires plan { length plan.now ≤ 16777216 }
+    requires plan { length plan.now ≤ most_text_bytes }
     ensures { IfOk result (λ a. IsDue (play_verdict {set = set.now} {plan = plan.now}) IsPlayText a.verdict a.text) }
 {
     match read_named_set(alloc, set)? {
@@ -31,11 +29,11 @@ pub fn play_answer(alloc: Global, set: &[u8], plan: &[u8]) -> Result<Answer, All
 /// What is due to the text of a plan for a set. `Err` comes where memory ran out.
 fn plan_answer(alloc: Global, named: &NamedSet, plan: &[u8]) -> Result<Answer, AllocError>
     requires set { IsTaskSet named.now.tasks }
-    requires plan { length plan.now ≤ 16777216 }
+    requires plan { length plan.now ≤ most_text_bytes }
     ensures { IfOk result (λ a. IsDue (plan_verdict {set = named.now} {plan = plan.now}) IsPlanText a.verdict a.text) }
 {
     match read_plan(alloc, named, plan) {
-        Ok(plan) => play_plan(alloc, named, &plan),
+        Ok(plan) => played_answer(alloc, named, &plan),
         Err(fault) => Ok(Answer {
             verdict: Verdict::Trace,
             text: plan_line(alloc, fault)?,
@@ -67,22 +65,4 @@ fn soon_line(alloc: Global, number: u32, least: u64) -> Result<Text, AllocError>
     line.put_u64(least)?;
     line.put(b"\n")?;
     Ok(line)
-}
-
-/// What is due to the play of a legal plan, whatever text it is read from. `Err` comes where memory ran out.
-fn play_plan(alloc: Global, named: &NamedSet, plan: &Plan) -> Result<Answer, AllocError>
-    requires set { IsTaskSet named.now.tasks }
-    requires plan { IsLegalPlan named.now.tasks plan.now }
-    ensures { IfOk result (λ a. (text : List ℕ) → plan_of named.now text ≡ Ok plan.now → IsDue (plan_verdict {set = named.now} {plan = text}) IsPlanText a.verdict a.text) }
-{
-    let set = named.set();
-    let upto = plan.horizon(set);
-    let log = play(alloc, set, plan, upto)?;
-    match first_miss(set, plan, &log, upto) {
-        Some(miss) => Ok(Answer {
-            verdict: Verdict::Missed,
-            text: missed_text(alloc, named.labels(), &log, miss)?,
-        }),
-        None => Ok(Answer::done(kept_text(alloc, named.labels(), &log)?)),
-    }
 }

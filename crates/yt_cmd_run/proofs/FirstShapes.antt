@@ -16,7 +16,7 @@ use Rattle.yt_graph.specs.declared.port.OutHead.{OutHead}
 use Rattle.yt_graph.specs.Picture.{ExprTree, num, local, var, neg, lnot, two, call, ExprsTree, no_exprs, more_exprs, StmtTree, send, BlockTree, empty, more, PortTree, GraphTree, block_tree, exprs_tree, port_tree, stmt_tree}
 use Rattle.yt_graph.specs.WellFormed.{IsFineInput, IsWellFormed}
 use Rattle.yt_run.specs.First.{Operand, the_message, the_number, leaf, sum_after, First, graph_of, port_of, IsSmallOperand, AreSmallOperands, IsInRange, IsFirstGraph}
-use Rattle.yt_cmd_run.specs.FirstShape.{IsLoneSum, IsOperand, IsSumOf, SendsSum, IsFirstPort, HasFirstPort, HasFirstShape}
+use Rattle.yt_cmd_run.specs.Inside.FirstShape.{IsLoneSum, IsOperand, IsSumOf, SendsSum, IsFirstPort, HasFirstPort, HasFirstShape}
 
 -- an operand is one of those that a sum adds
 pub record IsLeaf (e : ExprTree) : Type 0 where

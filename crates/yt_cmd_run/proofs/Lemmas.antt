@@ -17,19 +17,19 @@ use Rattle.yt_cmd_run.proofs.TraceTexts.{trace_text_is_one}
 -- a trace that keeps the period has no fault
 one_fault : (items : List ItemTree) (graph : GraphTree) (trace : List ℕ) (a b : Reads items graph trace) (f : TraceFault) → fault_in (the_period graph) a.messages ≡ None → fault_in (the_period graph) b.messages ≡ Some f → ⊥
 one_fault items graph trace a b f kept found =
-    let one : a.messages ≡ b.messages = trace_text_is_one trace (input_name graph) a.messages b.messages b.named a.traced b.traced in
+    let one : a.messages ≡ b.messages = trace_text_is_one trace (input_name graph) a.messages b.messages a.traced b.traced in
     let clash : ◌≡◌ {A = Option TraceFault} None (Some f) = sym kept ∙ ap (fault_in (the_period graph)) one ∙ found in
     cc
 
 -- the text of a trace has one verdict
 pub one_trace : (items : List ItemTree) (graph : GraphTree) (trace : List ℕ) (a b : TraceCause items graph trace) → trace_verdict a ≡ trace_verdict b
-one_trace items graph trace (not_run f) (not_run g) = refl
-one_trace items graph trace (not_run f) (at_fault s g u) = absurd (f s)
-one_trace items graph trace (not_run f) (legal s u) = absurd (f s)
-one_trace items graph trace (at_fault r f e) (not_run g) = absurd (g r)
+one_trace items graph trace (not_run is) (not_run too) = refl
+one_trace items graph trace (not_run is) (at_fault s g u) = absurd (is s.runs s.messages s.traced)
+one_trace items graph trace (not_run is) (legal s u) = absurd (is s.runs s.messages s.traced)
+one_trace items graph trace (at_fault r f e) (not_run is) = absurd (is r.runs r.messages r.traced)
 one_trace items graph trace (at_fault r f e) (at_fault s g u) = refl
 one_trace items graph trace (at_fault r f e) (legal s u) = absurd (one_fault items graph trace s r f u e)
-one_trace items graph trace (legal r e) (not_run g) = absurd (g r)
+one_trace items graph trace (legal r e) (not_run is) = absurd (is r.runs r.messages r.traced)
 one_trace items graph trace (legal r e) (at_fault s f u) = absurd (one_fault items graph trace r s f e u)
 one_trace items graph trace (legal r e) (legal s u) = refl
 
@@ -40,7 +40,9 @@ judged items graph trace read (Some fault) is = at_fault read fault is
 
 -- no text of a trace lacks a verdict
 pub some_trace : (items : List ItemTree) (graph : GraphTree) (trace : List ℕ) → (TraceCause items graph trace → ⊥) → ⊥
-some_trace items graph trace none = none (not_run (λ read. none (judged items graph trace read (fault_in (the_period graph) read.messages) refl)))
+some_trace items graph trace none = none (not_run (λ runs messages traced.
+    let read : Reads items graph trace = record { runs = runs; messages = messages; traced = traced } in
+    none (judged items graph trace read (fault_in (the_period graph) messages) refl)))
 
 -- a run has one verdict
 pub one_run : (graph trace : List ℕ) (a b : RunCause graph trace) → run_verdict a ≡ run_verdict b

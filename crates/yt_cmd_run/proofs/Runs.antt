@@ -63,11 +63,6 @@ period_by g i (d, range, is) at =
     subst (λ (g : GraphTree). the_period g ≡ input_period g 1) (sym is) refl
     ∙ ap (λ (o : Option Input). unwrap_or (option_map (λ (i : Input). i.period) o) 0) at
 
-pub named_input : (g : GraphTree) → IsFirstGraph g → IsWellFormed g → IsTrue (is_name (input_name g))
-named_input g (d, range, is) fine =
-    let inputs = subst (λ (g : GraphTree). All IsFineInput g.inputs) is fine.each_input in
-    subst (λ (g : GraphTree). IsTrue (is_name (input_name g))) (sym is) (All-head IsFineInput _ [] inputs).0
-
 -- a byte of a word is none that is no such byte
 word_byte_is_not : (c b : ℕ) → is_word_byte c ≡ false → is_word_byte b ≡ true → is_not c b ≡ true
 word_byte_is_not c b other h =
@@ -98,26 +93,26 @@ pub readable_names : (g : GraphTree) → IsFirstGraph g → IsWellFormed g → H
 readable_names g (d, range, is) fine = subst HasReadableNames (sym is) (readable_parts d (subst IsWellFormed is fine))
 
 -- the messages that a trace's text says of the input
-reads_by : (items : List ItemTree) (g : GraphTree) (trace name : List ℕ) (messages : List Message) → IsWellFormed g → IsRunSoFar items g → name ≡ input_name g → IsTraceText trace name messages → Reads items g trace
-reads_by items g trace name messages fine runs is traced =
-    record { runs = runs; named = named_input g runs.1 fine; messages = messages; traced = subst (λ (n : List ℕ). IsTraceText trace n messages) is traced }
+reads_by : (items : List ItemTree) (g : GraphTree) (trace name : List ℕ) (messages : List Message) → IsRunSoFar items g → name ≡ input_name g → IsTraceText trace name messages → Reads items g trace
+reads_by items g trace name messages runs is traced =
+    record { runs = runs; messages = messages; traced = subst (λ (n : List ℕ). IsTraceText trace n messages) is traced }
 
 -- a graph or a trace of another form is answered so
 pub not_run_due : {E : Type 0} (items : List ItemTree) (g : GraphTree) (trace : List ℕ) (r : Result Answer E) → IsNotRunYet items g trace → IfOk r (λ a. a ≡ record { verdict = NotYet; text = not_yet_line }) →
     IfOk r (λ a. IsDue (trace_verdict {items = items} {graph = g} {trace = trace}) IsTracedText a.verdict a.text)
 not_run_due items g trace r none is =
-    due_result (trace_verdict {items = items} {graph = g} {trace = trace}) IsTracedText (not_run (λ read. none read.runs read.messages read.traced)) r NotYet not_yet_line is refl (refl, none)
+    due_result (trace_verdict {items = items} {graph = g} {trace = trace}) IsTracedText (not_run none) r NotYet not_yet_line is refl refl
 
 -- a trace that breaks the period is answered by its first fault
-pub fault_due : (items : List ItemTree) (g : GraphTree) (trace name : List ℕ) (messages : List Message) (fault : TraceFault) (text : List ℕ) → IsWellFormed g → IsRunSoFar items g → name ≡ input_name g → IsTraceText trace name messages →
+pub fault_due : (items : List ItemTree) (g : GraphTree) (trace name : List ℕ) (messages : List Message) (fault : TraceFault) (text : List ℕ) → IsRunSoFar items g → name ≡ input_name g → IsTraceText trace name messages →
     fault_in (the_period g) messages ≡ Some fault → text ≡ fault_text fault → IsDue (trace_verdict {items = items} {graph = g} {trace = trace}) IsTracedText Trace text
 unfolding reads_by
-fault_due items g trace name messages fault text fine runs is traced found printed =
-    record { cause = at_fault (reads_by items g trace name messages fine runs is traced) fault found; verdict = refl; told = printed }
+fault_due items g trace name messages fault text runs is traced found printed =
+    record { cause = at_fault (reads_by items g trace name messages runs is traced) fault found; verdict = refl; told = printed }
 
 -- and one that keeps it by a run
-pub legal_due : (items : List ItemTree) (g : GraphTree) (trace name : List ℕ) (messages : List Message) (given : Verdict) (text : List ℕ) → IsWellFormed g → IsRunSoFar items g → name ≡ input_name g → IsTraceText trace name messages →
+pub legal_due : (items : List ItemTree) (g : GraphTree) (trace name : List ℕ) (messages : List Message) (given : Verdict) (text : List ℕ) → IsRunSoFar items g → name ≡ input_name g → IsTraceText trace name messages →
     fault_in (the_period g) messages ≡ None → given ≡ Done → IsRun g messages text → IsDue (trace_verdict {items = items} {graph = g} {trace = trace}) IsTracedText given text
 unfolding reads_by
-legal_due items g trace name messages given text fine runs is traced kept done run =
-    record { cause = legal (reads_by items g trace name messages fine runs is traced) kept; verdict = done; told = run }
+legal_due items g trace name messages given text runs is traced kept done run =
+    record { cause = legal (reads_by items g trace name messages runs is traced) kept; verdict = done; told = run }

@@ -9,7 +9,7 @@ use Rattle.std.proofs.lemmas.Bool.{and_parts}
 use Rattle.yt_base.proofs.Lemmas.{decimal_passes, signed_decimal_passes}
 use Rattle.yt_graph.specs.Names.{is_name, begins_as_word, is_word_byte}
 use Rattle.yt_graph.specs.Reserved.{is_reserved}
-use Rattle.yt_cmd_run.specs.Split.{lacks, IsSplit}
+use Rattle.yt_cmd_run.specs.Inside.Split.{lacks, IsSplit}
 use Rattle.yt_cmd_run.specs.TraceText.{message_line}
 use Rattle.yt_cmd_run.proofs.TraceSplits.{split_is}
 
@@ -24,7 +24,7 @@ lacks-append byte (b ∷ bs) back first second =
 pub lacks-decimal : (byte n : ℕ) → byte < 48 → n < 10 ^ 64 → IsTrue (lacks byte (decimal n))
 lacks-decimal byte n below fits = decimal_passes (λ b. not (b == byte)) (λ b low high. grind (arith, common_steps)) n fits
 
-lacks-signed_decimal : (byte : ℕ) (z : ℤ) → byte < 45 → FitsSigned w64 z → IsTrue (lacks byte (signed_decimal z))
+pub lacks-signed_decimal : (byte : ℕ) (z : ℤ) → byte < 45 → FitsSigned w64 z → IsTrue (lacks byte (signed_decimal z))
 lacks-signed_decimal byte z below fits = signed_decimal_passes (λ b. not (b == byte)) (grind (arith, common_steps)) (λ b low high. grind (arith, common_steps)) z fits.sfits
 
 -- and a name has none below the digits

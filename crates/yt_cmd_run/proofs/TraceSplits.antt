@@ -4,7 +4,7 @@ use Rattle.std.specs.Prelude.{IsTrue}
 use Rattle.std.specs.List.{position_or_len}
 use Rattle.std.proofs.lemmas.Grind.{common_steps}
 use Rattle.std.proofs.lemmas.List.Sums.{split_at_first, passes_at_first}
-use Rattle.yt_cmd_run.specs.Split.{lacks, IsSplit}
+use Rattle.yt_cmd_run.specs.Inside.Split.{lacks, IsSplit}
 
 -- a byte that is found nowhere is lacking
 pub lacks_unfound : (byte : ℕ) (text : List ℕ) → position (λ b. b == byte) text ≡ None → IsTrue (lacks byte text)

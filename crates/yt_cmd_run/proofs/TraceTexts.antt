@@ -4,13 +4,14 @@ use Rattle.std.specs.Prelude.{IsTrue, FitsSigned}
 use Rattle.std.specs.Int.{w64}
 use Rattle.std.specs.Fmt.{decimal, signed_decimal}
 use Rattle.std.proofs.lemmas.Grind.{common_steps}
+use Rattle.std.proofs.lemmas.List.{append_cancel_left}
 use Rattle.std.proofs.lemmas.Fmt.{decimal_injective, signed_decimal_injective}
 use Rattle.yt_serial.specs.declared.trace.Message.{Message}
 use Rattle.yt_graph.specs.Names.{is_name}
-use Rattle.yt_cmd_run.specs.Split.{IsSplit}
+use Rattle.yt_cmd_run.specs.Inside.Split.{IsSplit}
 use Rattle.yt_cmd_run.specs.TraceText.{message_line, one_number, trace_text, AreInRange, messages_in, IsTraceText}
 use Rattle.yt_cmd_run.proofs.TraceSplits.{one_split, split_is}
-use Rattle.yt_cmd_run.proofs.TraceLines.{lacks-decimal, lacks_name, lacks-message_line, fields_of_message}
+use Rattle.yt_cmd_run.proofs.TraceLines.{lacks-decimal, lacks-signed_decimal, lacks_name, lacks-message_line, fields_of_message}
 
 -- a line is one message's
 one_message : (input : List ℕ) → IsTrue (is_name input) → (m o : ℕ × ℤ) → (m.0 ≤ 4000000) × FitsSigned w64 m.1 → (o.0 ≤ 4000000) × FitsSigned w64 o.1 → message_line input m.0 m.1 ≡ message_line input o.0 o.1 → m ≡ o
@@ -120,14 +121,46 @@ pub line_of_message : (input rest line later behind : List ℕ) (time : ℕ) (va
 line_of_message input rest line later behind time value named soon fits split begins =
     (split_is 10 rest line later (message_line input time value) behind split (lacks-message_line input time value named soon fits) begins).0
 
--- where nothing is left no message is
-no_more : (input : List ℕ) (more : List (ℕ × ℤ)) → [] ≡ trace_text input more → more ≡ []
-no_more input [] none = refl
-no_more input (m ∷ ms) none = absurd (grind (arith, common_steps, ap length none))
+-- a message's line and what comes behind it, field by field
+spread : (input rest : List ℕ) (time : ℕ) (value : ℤ) →
+    message_line input time value ++ (10 ∷ rest) ≡ decimal time ++ (32 ∷ (input ++ (32 ∷ (signed_decimal value ++ (10 ∷ rest)))))
+spread input rest time value =
+    append_assoc (decimal time) (32 ∷ (input ++ (32 ∷ signed_decimal value))) (10 ∷ rest)
+    ∙ ap (λ (behind : List ℕ). decimal time ++ (32 ∷ behind)) (append_assoc input (32 ∷ signed_decimal value) (10 ∷ rest))
 
--- a text is that of one trace alone
-pub trace_text_is_one : (text input : List ℕ) (first second : List Message) → IsTrue (is_name input) → IsTraceText text input first → IsTraceText text input second → first ≡ second
-trace_text_is_one text input first second named a b =
-    let behind = begins_with input named a.pairs b.pairs [] a.in_range b.in_range (append-nil (trace_text input a.pairs) ∙ (sym a.spelled ∙ b.spelled)) in
-    let pairs : b.pairs ≡ a.pairs = behind.joined ∙ rw (no_more input behind.more behind.spelled) (append-nil a.pairs) in
-    a.read ∙ sym (rw pairs at b.read)
+-- two messages with one line and one text behind it
+record AreSame (m o : ℕ × ℤ) (rest rest' : List ℕ) : Type 0 where
+  time : m.0 ≡ o.0
+  value : m.1 ≡ o.1
+  behind : rest ≡ rest'
+
+same_line : (input rest rest' : List ℕ) (m o : ℕ × ℤ) → (m.0 ≤ 4000000) × FitsSigned w64 m.1 → (o.0 ≤ 4000000) × FitsSigned w64 o.1 →
+    message_line input m.0 m.1 ++ (10 ∷ rest) ≡ message_line input o.0 o.1 ++ (10 ∷ rest') → AreSame m o rest rest'
+same_line input rest rest' m o first second same =
+    let ends : List ℕ = signed_decimal m.1 ++ (10 ∷ rest) in
+    let ends' : List ℕ = signed_decimal o.1 ++ (10 ∷ rest') in
+    let outer = one_split 32 (decimal m.0) (input ++ (32 ∷ ends)) (decimal o.0) (input ++ (32 ∷ ends'))
+    (lacks-decimal 32 m.0 (omega arith) (omega arith)) (lacks-decimal 32 o.0 (omega arith) (omega arith))
+    (sym (spread input rest m.0 m.1) ∙ same ∙ spread input rest' o.0 o.1) in
+    let inner = append_cancel_left (32 ∷ []) ends ends' (append_cancel_left input (32 ∷ ends) (32 ∷ ends') outer.1) in
+    let last = one_split 10 (signed_decimal m.1) rest (signed_decimal o.1) rest'
+    (lacks-signed_decimal 10 m.1 (omega arith) first.1) (lacks-signed_decimal 10 o.1 (omega arith) second.1) inner in
+    record {
+      time = decimal_injective m.0 o.0 (omega arith) (omega arith) outer.0;
+      value = signed_decimal_injective m.1 o.1 first.1.sfits second.1.sfits last.0;
+      behind = last.1;
+    }
+
+-- a text is that of one list of messages, whatever the input is called
+same_pairs : (input : List ℕ) (first second : List (ℕ × ℤ)) → AreInRange first → AreInRange second → trace_text input first ≡ trace_text input second → first ≡ second
+same_pairs input [] [] a b same = refl
+same_pairs input [] (o ∷ os) a b same = absurd (grind (arith, common_steps, ap length same))
+same_pairs input (m ∷ ms) [] a b same = absurd (grind (arith, common_steps, ap length same))
+same_pairs input (m ∷ ms) (o ∷ os) a b same =
+    let here = same_line input (trace_text input ms) (trace_text input os) m o a.0 b.0 same in
+    let others = same_pairs input ms os a.1 b.1 here.behind in
+    λ i. (here.time i, here.value i) ∷ others i
+
+pub trace_text_is_one : (text input : List ℕ) (first second : List Message) → IsTraceText text input first → IsTraceText text input second → first ≡ second
+trace_text_is_one text input first second a b =
+    a.read ∙ ap messages_in (same_pairs input a.pairs b.pairs a.in_range b.in_range (sym a.spelled ∙ b.spelled)) ∙ sym b.read

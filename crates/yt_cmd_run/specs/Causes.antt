@@ -17,19 +17,19 @@ use Rattle.yt_cmd_run.specs.TraceText.{fault_in, fault_text}
 -- why a verdict on the text of a trace comes, for a graph that fits, with its tree: the graph or the trace is none of those that are run
 -- so far; or the trace breaks the input's period, with this first fault; or it doesn't
 pub data TraceCause (items : List ItemTree) (graph : GraphTree) (trace : List ℕ) : Type 0 where
-  not_run : (Reads items graph trace → ⊥) → TraceCause items graph trace
+  not_run : IsNotRunYet items graph trace → TraceCause items graph trace
   at_fault : (read : Reads items graph trace) (fault : TraceFault) → fault_in (the_period graph) read.messages ≡ Some fault → TraceCause items graph trace
   legal : (read : Reads items graph trace) → fault_in (the_period graph) read.messages ≡ None → TraceCause items graph trace
 
 -- the verdict
 abbrev pub trace_verdict : {items : List ItemTree} {graph : GraphTree} {trace : List ℕ} → TraceCause items graph trace → Verdict
-trace_verdict (not_run none) = NotYet
+trace_verdict (not_run is) = NotYet
 trace_verdict (at_fault read fault found) = Trace
 trace_verdict (legal read kept) = Done
 
 -- its text
 abbrev pub IsTracedText : {items : List ItemTree} {graph : GraphTree} {trace : List ℕ} → TraceCause items graph trace → List ℕ → Type 0
-IsTracedText {items} {graph} {trace} (not_run none) text = (text ≡ not_yet_line) × IsNotRunYet items graph trace
+IsTracedText (not_run is) text = text ≡ not_yet_line
 IsTracedText (at_fault read fault found) text = text ≡ fault_text fault
 IsTracedText {items} {graph} (legal read kept) text = IsRun graph read.messages text
 

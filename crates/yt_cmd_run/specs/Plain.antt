@@ -49,23 +49,23 @@ is_plain_port (port ∷ []) = is_plain_out port.outs && is_plain_body port.body
 is_plain_port (port ∷ next ∷ rest) = false
 
 abbrev pub is_input : ItemTree → Bool
-is_input (input w width period) = true
-is_input (output w path) = false
-is_input (resource w) = false
-is_input (process w inside vars ports) = false
+is_input (input i) = true
+is_input (output o) = false
+is_input (resource r) = false
+is_input (process p) = false
 
 abbrev pub is_output : ItemTree → Bool
-is_output (input w width period) = false
-is_output (output w path) = true
-is_output (resource w) = false
-is_output (process w inside vars ports) = false
+is_output (input i) = false
+is_output (output o) = true
+is_output (resource r) = false
+is_output (process p) = false
 
 -- a part is a process with such a port
 abbrev pub is_plain_process : ItemTree → Bool
-is_plain_process (input w width period) = false
-is_plain_process (output w path) = false
-is_plain_process (resource w) = false
-is_plain_process (process w inside vars ports) = is_plain_port ports
+is_plain_process (input i) = false
+is_plain_process (output o) = false
+is_plain_process (resource r) = false
+is_plain_process (process p) = is_plain_port p.ports
 
 -- a graph is an input, an output and such a process, written in this order
 abbrev pub is_plain : List ItemTree → Bool

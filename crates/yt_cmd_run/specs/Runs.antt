@@ -1,7 +1,6 @@
 -- A run of a graph on a trace, and what its text tells.
-use Rattle.std.specs.Prelude.{◌≡◌, ℕ, List, [], IsTrue, slice_get}
+use Rattle.std.specs.Prelude.{◌≡◌, ℕ, List, [], slice_get}
 use Rattle.std.specs.Option.{option_map, unwrap_or}
-use Rattle.yt_graph.specs.Names.{is_name}
 use Rattle.yt_graph.specs.AstPicture.{ItemTree}
 use Rattle.yt_graph.specs.Picture.{GraphTree}
 use Rattle.yt_serial.specs.declared.trace.Message.{Message}
@@ -19,7 +18,6 @@ input_name graph = unwrap_or (option_map (λ i. i.name) (slice_get graph.inputs 
 -- the graph is one of those that are run so far, and the trace's text says these messages of its input
 pub record Reads (items : List ItemTree) (graph : GraphTree) (trace : List ℕ) : Type 0 where
   pub runs : IsRunSoFar items graph
-  pub named : IsTrue (is_name (input_name graph))
   pub messages : List Message
   pub traced : IsTraceText trace (input_name graph) messages
 

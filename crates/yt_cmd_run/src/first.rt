@@ -3,7 +3,7 @@ ghost use Rattle.std.specs.Prelude.{◌↔◌, IsTrue, map};
 ghost use Rattle.yt_graph.specs.AstPicture.{ast_tree};
 ghost use Rattle.yt_graph.specs.Picture.{block_tree, expr_tree, exprs_tree, graph_tree, port_tree};
 ghost use Rattle.yt_graph.specs.WellFormed.{IsWellFormed};
-ghost use Rattle.yt_cmd_run.specs.FirstShape.{HasFirstPort, HasFirstShape, HasLoneInput, HasLoneOut, HasLoneOutput, IsFirstPort, IsLoneSum, IsOperand, IsSumOf, SendsSum};
+ghost use Rattle.yt_cmd_run.specs.Inside.FirstShape.{HasFirstPort, HasFirstShape, HasLoneInput, HasLoneOut, HasLoneOutput, IsFirstPort, IsLoneSum, IsOperand, IsSumOf, SendsSum};
 ghost use Rattle.yt_cmd_run.specs.Plain.{IsRunSoFar};
 
 use crate::plain::is_plain;

@@ -1,6 +1,6 @@
 //! What is due to a run of a graph on a trace.
 ghost use Rattle.std.specs.Prelude.{◌≡◌, ◌≤◌, IfOk, length};
-ghost use Rattle.yt_admit.specs.Admissions.{most_text_bytes};
+ghost use Rattle.yt_base.specs.Limits.{most_text_bytes};
 ghost use Rattle.yt_answer.specs.Due.{IsDue};
 ghost use Rattle.yt_graph.specs.AstPicture.{ast_tree};
 ghost use Rattle.yt_graph.specs.Picture.{graph_tree};

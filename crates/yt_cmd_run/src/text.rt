@@ -77,11 +77,10 @@ fn put_values(text: &mut Text, values: &[i64]) -> Result<(), AllocError>
 fn name_of_output(graph: &Graph, number: u32) -> &[u8]
     ensures { result.now ≡ output_name (graph_tree graph.now) number }
 {
-    match graph
-        .outputs
-        .as_slice()
-        .get(number.saturating_sub(1) as usize)
-    {
+    if number == 0 {
+        return b"";
+    }
+    match graph.outputs.as_slice().get(number as usize - 1) {
         Some(output) => output.name.as_slice(),
         None => b"",
     }

@@ -4,7 +4,7 @@ ghost use Rattle.std.specs.Int.{w64};
 ghost use Rattle.yt_serial.specs.declared.trace.Message.{Message};
 ghost use Rattle.yt_serial.specs.Limits.{most_time};
 ghost use Rattle.yt_graph.specs.Names.{is_name};
-ghost use Rattle.yt_cmd_run.specs.Split.{IsSplit, lacks};
+ghost use Rattle.yt_cmd_run.specs.Inside.Split.{IsSplit, lacks};
 ghost use Rattle.yt_cmd_run.specs.TraceText.{IsTraceText, message_line, one_number};
 
 mod fault;
@@ -89,12 +89,12 @@ fn split_at_first(text: &[u8], byte: u8) -> Option<(&[u8], &[u8])>
         (IsTrue (lacks byte text.now))
         (λ parts. IsSplit byte text.now parts.0.now parts.1.now) }
 {
-    let n = place_of(text, byte)?;
+    let n = first_place(text, byte)?;
     Some((&text[..n], &text[n + 1..]))
 }
 
 /// The place of the first `byte`, counted from 0; `None` where there is none.
-fn place_of(text: &[u8], byte: u8) -> Option<usize>
+fn first_place(text: &[u8], byte: u8) -> Option<usize>
     ensures { result ≡ position (λ b. b == byte) text.now }
 {
     text.iter().position(|b| *b == byte)

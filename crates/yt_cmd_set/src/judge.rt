@@ -6,7 +6,7 @@ ghost use Rattle.yt_cmd_set.specs.Judged.{IsFitText, IsJudgedText, fit_verdict, 
 use std::alloc::{AllocError, Global};
 use yt_answer::Answer;
 use yt_fits::fits;
-use yt_fitting::{SetReading, accepted_answer, read_named_set, unfit_answer};
+use yt_fitting::{Kind, SetReading, accepted_answer, read_named_set, unfit_answer};
 use yt_set::NamedSet;
 
 /// What is due to the text of a set, which the caller shows to be shorter than 2^32 bytes. `Err` comes where memory ran out.
@@ -27,6 +27,6 @@ fn judge(alloc: Global, named: &NamedSet) -> Result<Answer, AllocError>
     let set = named.set();
     match fits(set) {
         Ok(sum) => accepted_answer(alloc, set, sum),
-        Err(why) => unfit_answer(alloc, b"set", named.labels(), set, &why),
+        Err(why) => unfit_answer(alloc, Kind::Set, named.labels(), set, &why),
     }
 }

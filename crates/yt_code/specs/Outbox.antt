@@ -1,16 +1,12 @@
 -- What the sends of a tick leave of an outbox.
-use Rattle.std.specs.Prelude.{◌≡◌, ◌≢◌, ℕ, ◌==◌, if◌then◌else◌, ℤ, List, [], ◌∷◌, ◌++◌}
+use Rattle.std.specs.Prelude.{◌≡◌, ◌≢◌, ℕ, ℤ, List, [], ◌∷◌, ◌++◌}
 use Rattle.yt_graph.specs.declared.handled.SendItem.{SendItem}
+use Rattle.yt_graph.specs.Sends.{messages_on}
 
 -- the message comes last on this out, and nothing is sent on any other
 abbrev pub AddsSend : (ℕ → List (List ℤ)) → (ℕ → List (List ℤ)) → ℕ → List ℤ → Type 0
 AddsSend old new out values =
     (new out ≡ old out ++ values ∷ []) × ((other : ℕ) → other ≢ out → new other ≡ old other)
-
--- the messages that were sent on an out, in order
-abbrev pub messages_on : ℕ → List SendItem → List (List ℤ)
-messages_on out [] = []
-messages_on out (s ∷ rest) = if s.out == out then s.values ∷ messages_on out rest else messages_on out rest
 
 -- on each out these sends come last, in order
 abbrev pub AddsSends : (ℕ → List (List ℤ)) → (ℕ → List (List ℤ)) → List SendItem → Type 0

@@ -59,12 +59,12 @@ impl Code {
     }
 
     /// The instruction at this place, from 0. The caller shows that there is one.
-    pub fn at(&self, place: usize) -> Instr
+    pub fn at(&self, place: usize) -> &Instr
         requires { place < length self.now.instrs }
-        ensures value { slice_get self.now.instrs place ≡ Some result }
+        ensures value { slice_get self.now.instrs place ≡ Some result.now }
         ensures next { place + 1 < 2 ^ 64 }
     {
-        self.instrs.as_slice()[place]
+        &self.instrs.as_slice()[place]
     }
 
     /// How many numbers a message has.

@@ -4,7 +4,7 @@ use yt_graph::Op2;
 use yt_list::Items;
 
 /// One instruction. It takes a tick, but a call takes the ticks that it names. Jumps go to places, counted from 0.
-#[derive(Clone, Copy, Debug, PartialEq, Eq)]
+#[derive(Debug, Drop, PartialEq, Eq)]
 pub enum Instr {
     /// Puts a number on the stack.
     Push(i64),

@@ -17,7 +17,7 @@ mod stepped;
 pub use code::Code;
 pub use instr::{Instr, Instrs};
 pub use laws::valid_code_is_never_stuck;
-pub use limits::{MOST_LOCALS, MOST_OPEN_LOOPS, STACK_ROOM};
+pub use limits::{MOST_OPEN_LOOPS, STACK_ROOM};
 pub use machine::Machine;
 pub use outbox::Outbox;
 pub use stepped::Stepped;

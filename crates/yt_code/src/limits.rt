@@ -1,10 +1,7 @@
-//! The limits of code. Definitions cite the first two.
+//! The limits of code, which definitions cite. How many locals there can be, `yt_graph` says.
 
 /// How many numbers the stack can hold.
 pub const STACK_ROOM: usize = 40;
 
 /// How many loops can be open.
 pub const MOST_OPEN_LOOPS: usize = 8;
-
-/// How many locals a handler can have, its parameters among them: as many as `yt_graph` says in `specs/Limits.antt`.
-pub const MOST_LOCALS: usize = 16;

@@ -9,13 +9,13 @@ ghost use Rattle.yt_code.specs.Needs.{Finds, HasTurn, IsQuiet};
 
 use crate::code::Code;
 use crate::instr::Instr;
-use crate::limits::{MOST_LOCALS, MOST_OPEN_LOOPS, STACK_ROOM};
+use crate::limits::{MOST_OPEN_LOOPS, STACK_ROOM};
 use crate::outbox::Outbox;
 use crate::pile::Pile;
 use crate::stepped::Stepped;
 use arrayvec::ArrayVec;
 use std::marker::Model;
-use yt_graph::{Op2, applied, inverted, negated, turns_made};
+use yt_graph::{MOST_LOCALS, Op2, applied, inverted, negated, turns_made};
 
 /// A machine that steps through the code of a handler. A contract sees its state between two ticks.
 #[derive(Drop)]
@@ -138,26 +138,26 @@ impl Machine {
     }
 
     // One tick of an instruction.
-    fn act<B: Outbox>(&mut self, instr: Instr, vars: &mut [i64], out: &mut B) -> Stepped
-        requires finds { Finds instr self.old (length vars.old) }
+    fn act<B: Outbox>(&mut self, instr: &Instr, vars: &mut [i64], out: &mut B) -> Stepped
+        requires finds { Finds instr.now self.old (length vars.old) }
         requires next { self.old.place + 1 < 2 ^ 64 }
-        requires takes { TakesAll B.takes B.leaves (sends_of (effect instr self.old vars.old)) out.old }
-        ensures tick { IsTick (effect instr self.old vars.old) self.new vars.new result }
-        ensures added { AddsSends (B.sent out.old) (B.sent out.new) (sends_of (effect instr self.old vars.old)) }
-        ensures left { LeavesAll B.leaves (sends_of (effect instr self.old vars.old)) out.old out.new }
+        requires takes { TakesAll B.takes B.leaves (sends_of (effect instr.now self.old vars.old)) out.old }
+        ensures tick { IsTick (effect instr.now self.old vars.old) self.new vars.new result }
+        ensures added { AddsSends (B.sent out.old) (B.sent out.new) (sends_of (effect instr.now self.old vars.old)) }
+        ensures left { LeavesAll B.leaves (sends_of (effect instr.now self.old vars.old)) out.old out.new }
     {
         match instr {
-            Instr::Push(n) => self.push(n),
+            Instr::Push(n) => self.push(*n),
             Instr::Local(i) => {
-                let x = self.local(i);
+                let x = self.local(*i);
                 self.push(x);
             }
-            Instr::Var(i) => self.push(vars[i as usize]),
+            Instr::Var(i) => self.push(vars[*i as usize]),
             Instr::SetLocal(i) => {
                 let x = self.pop();
-                self.set_local(i, x);
+                self.set_local(*i, x);
             }
-            Instr::SetVar(i) => vars[i as usize] = self.pop(),
+            Instr::SetVar(i) => vars[*i as usize] = self.pop(),
             Instr::Neg => {
                 let x = self.pop();
                 self.stack.push(negated(x));
@@ -166,17 +166,17 @@ impl Machine {
                 let x = self.pop();
                 self.stack.push(inverted(x));
             }
-            Instr::Two(op) => self.two(op),
+            Instr::Two(op) => self.two(*op),
             Instr::Call { .. } => unreachable!(),
-            Instr::Send { out: o, width } => self.send(o, width, out),
+            Instr::Send { out: o, width } => self.send(*o, *width, out),
             Instr::JumpZero(to) => {
                 if self.pop() == 0 {
-                    self.jump(to);
+                    self.jump(*to);
                 }
             }
-            Instr::Jump(to) => self.jump(to),
-            Instr::Loop { max, to } => self.enter(max, to),
-            Instr::Again(to) => self.turn(to),
+            Instr::Jump(to) => self.jump(*to),
+            Instr::Loop { max, to } => self.enter(*max, *to),
+            Instr::Again(to) => self.turn(*to),
             Instr::End => return Stepped::Ended,
         }
         Stepped::Going

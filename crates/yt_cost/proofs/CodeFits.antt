@@ -116,13 +116,13 @@ module _ (g : GraphTree) (p : PortTree) where
         let parts = or_false (stmt_calls a) (block_calls rest) c in
         (stmt_fits outs a f.0 parts.0, block_fits outs rest f.1 parts.1)
 
-pub fits : (vars : ℕ) (port : PortTree) → IsHandlerFit vars port → IsFit vars port
-fits vars port h =
+pub fits : (graph : GraphTree) (port : PortTree) → IsHandlerFit graph port → IsFit (length graph.vars) port
+fits graph port h =
     let w = h.well_formed in
     record {
       params_are_locals = w.4;
       few_locals = w.5;
       depth = w.9;
-      body = subst (λ n. IsBlockFit port.locals n port.body) h.all_vars (block_fits h.graph port w.8 port.body w.10 h.no_calls);
+      body = block_fits graph port w.8 port.body w.10 h.no_calls;
       cost = omega (arith, h.cost);
     }

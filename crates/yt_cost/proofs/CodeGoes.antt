@@ -83,24 +83,24 @@ module _ (code : List Instr) where
   ends_at a b c f e = subst (Goes a) e f
 
   -- the tick of an instruction
-  step_is : (p : ℕ) (s l : List ℤ) (w : Run) (i : Instr) → slice_get code p ≡ Some i → step (at p s l w) ≡ going (advance (written (Some i) s w.ticks) (handling_of w) (effect i (at_place p s l w.locals) w.vars))
+  step_is : (p : ℕ) (s l : List ℤ) (w : Run) (i : Instr) → slice_get code p ≡ Some i → step (at p s l w) ≡ going (advance (written (Some i) (at_place p s l w.locals) w.vars w.ticks) (handling_of w) (effect i (at_place p s l w.locals) w.vars))
   step_is p s l w i h =
-      ap (λ o. going (advance (written o s w.ticks) (handling_of w) (step_at o (at_place p s l w.locals) w.vars))) h
+      ap (λ o. going (advance (written o (at_place p s l w.locals) w.vars w.ticks) (handling_of w) (step_at o (at_place p s l w.locals) w.vars))) h
 
   -- a tick that sends and writes nothing
-  quiet : (p : ℕ) (s l : List ℤ) (w : Run) (i : Instr) (m : State) → slice_get code p ≡ Some i → written (Some i) s w.ticks ≡ [] → effect i (at_place p s l w.locals) w.vars ≡ goes_on m w.vars → step (at p s l w) ≡ Some (record { machine = m; so_far = handling_of (spend 1 w) })
+  quiet : (p : ℕ) (s l : List ℤ) (w : Run) (i : Instr) (m : State) → slice_get code p ≡ Some i → written (Some i) (at_place p s l w.locals) w.vars w.ticks ≡ [] → effect i (at_place p s l w.locals) w.vars ≡ goes_on m w.vars → step (at p s l w) ≡ Some (record { machine = m; so_far = handling_of (spend 1 w) })
   quiet p s l w i m h ws e =
       step_is p s l w i h
-      ∙ ap (λ o. going (advance (written (Some i) s w.ticks) (handling_of w) o)) e
+      ∙ ap (λ o. going (advance (written (Some i) (at_place p s l w.locals) w.vars w.ticks) (handling_of w) o)) e
       ∙ ap (λ x. going (advance x (handling_of w) (goes_on m w.vars))) ws
       ∙ ap (λ x. Some (record { machine = m; so_far = record { vars = w.vars; sends = x; ticks = w.ticks + 1; writes = w.writes ++ [] } })) (append-nil w.sends)
       ∙ ap (λ x. Some (record { machine = m; so_far = record { vars = w.vars; sends = w.sends; ticks = w.ticks + 1; writes = x } })) (append-nil w.writes)
 
-  one_quiet : (p : ℕ) (s l : List ℤ) (w : Run) (i : Instr) (q : ℕ) (t m : List ℤ) → slice_get code p ≡ Some i → written (Some i) s w.ticks ≡ [] → effect i (at_place p s l w.locals) w.vars ≡ goes_on (at_place q t m w.locals) w.vars → Goes (at p s l w) (at q t m (spend 1 w))
+  one_quiet : (p : ℕ) (s l : List ℤ) (w : Run) (i : Instr) (q : ℕ) (t m : List ℤ) → slice_get code p ≡ Some i → written (Some i) (at_place p s l w.locals) w.vars w.ticks ≡ [] → effect i (at_place p s l w.locals) w.vars ≡ goes_on (at_place q t m w.locals) w.vars → Goes (at p s l w) (at q t m (spend 1 w))
   one_quiet p s l w i q t m h ws e = one _ _ (quiet p s l w i (at_place q t m w.locals) h ws e)
 
   -- an expression whose value is changed by one more instruction
-  with_one : (n : ℕ) (i : Instr) (x y : ℤ) (p : ℕ) (s l : List ℤ) (w : Run) → slice_get code (p + n) ≡ Some i → Goes (at p s l w) (at (p + n) (x ∷ s) l (spend n w)) → written (Some i) (x ∷ s) (w.ticks + n) ≡ [] → effect i (at_place (p + n) (x ∷ s) l w.locals) w.vars ≡ goes_on (at_place (p + n + 1) (y ∷ s) l w.locals) w.vars → Goes (at p s l w) (at (p + (n + 1)) (y ∷ s) l (spend (n + 1) w))
+  with_one : (n : ℕ) (i : Instr) (x y : ℤ) (p : ℕ) (s l : List ℤ) (w : Run) → slice_get code (p + n) ≡ Some i → Goes (at p s l w) (at (p + n) (x ∷ s) l (spend n w)) → written (Some i) (at_place (p + n) (x ∷ s) l w.locals) w.vars (w.ticks + n) ≡ [] → effect i (at_place (p + n) (x ∷ s) l w.locals) w.vars ≡ goes_on (at_place (p + n + 1) (y ∷ s) l w.locals) w.vars → Goes (at p s l w) (at (p + (n + 1)) (y ∷ s) l (spend (n + 1) w))
   with_one n i x y p s l w h go ws e =
       let place : p + n + 1 ≡ p + (n + 1) = omega arith in
       ends_at _ _ _ (both _ _ _ go (one_quiet (p + n) (x ∷ s) l (spend n w) i (p + n + 1) (y ∷ s) l h ws e)) (same_at (p + n + 1) _ (y ∷ s) _ l _ _ _ place refl refl (spend_twice w n 1 (n + 1) refl))

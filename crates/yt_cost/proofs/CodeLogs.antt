@@ -5,6 +5,7 @@ use Rattle.std.proofs.lemmas.Bool.Decides.{nat_tests}
 use Rattle.yt_graph.specs.declared.handled.Write.{Write}
 use Rattle.yt_graph.specs.declared.handled.SendItem.{SendItem}
 use Rattle.yt_graph.specs.Meaning.{Handling, turns_of}
+use Rattle.yt_graph.specs.Writes.{after_writes}
 use Rattle.yt_code.specs.declared.instr.Instr.{Instr}
 use Rattle.yt_code.specs.declared.instr.Instr.TheVariants.{Push, Local, Var, SetLocal, SetVar, Neg, Not, Two, Call, Send, JumpZero, Jump, Loop, Again, End}
 use Rattle.yt_code.specs.declared.stepped.Stepped.{Stepped}
@@ -12,60 +13,68 @@ use Rattle.yt_code.specs.declared.stepped.Stepped.TheVariants.{Going, Ended}
 use Rattle.yt_code.specs.Step.{State, Tick, enters, turns_back, effect, step_at}
 use Rattle.yt_cost.specs.CodeAlone.{Progress, written, with_tick, advance, tick_alone, going, and_then, ticks_alone, written_before, IsAfter}
 
--- what a tick does to the variables and the writes: nothing, or one write
-pub data Changes (ticks : ℕ) (vars news : List ℤ) (writes : List Write) : Type 0 where
-  kept : news ≡ vars → writes ≡ [] → Changes ticks vars news writes
-  wrote : (i : ℕ) (x : ℤ) → news ≡ slice_set vars i x → writes ≡ (record { offset = ticks; variable = i; value = x }) ∷ [] → Changes ticks vars news writes
+-- each of these writes is of the tick before which so many were taken
+abbrev AreOfTick : ℕ → List Write → Type 0
+AreOfTick ticks [] = Unit {0}
+AreOfTick ticks (w ∷ rest) = (w.offset ≡ ticks) × AreOfTick ticks rest
+
+-- what a tick does to the variables: it makes these writes
+pub record Changes (ticks : ℕ) (vars news : List ℤ) (writes : List Write) : Type 0 where
+  pub made : news ≡ after_writes writes vars
+  pub now : AreOfTick ticks writes
 
 abbrev ChangesIf : ℕ → List ℤ → List Write → Option Tick → Type 0
 ChangesIf ticks vars writes None = Unit {0}
 ChangesIf ticks vars writes (Some t) = Changes ticks vars t.vars writes
+
+kept : (ticks : ℕ) (vars : List ℤ) → Changes ticks vars vars []
+kept ticks vars = record { made = refl; now = tt }
 
 choice_keeps : (b : Bool) (ticks : ℕ) (vars : List ℤ) (t u : Option Tick) → ChangesIf ticks vars [] t → ChangesIf ticks vars [] u → ChangesIf ticks vars [] (cond b t u)
 choice_keeps true ticks vars t u f g = f
 choice_keeps false ticks vars t u f g = g
 
 enter_keeps : (n to ticks : ℕ) (m : State) (stack vars : List ℤ) → ChangesIf ticks vars [] (enters n to m stack vars)
-enter_keeps zero to ticks m stack vars = kept refl refl
-enter_keeps (suc n) to ticks m stack vars = kept refl refl
+enter_keeps zero to ticks m stack vars = kept ticks vars
+enter_keeps (suc n) to ticks m stack vars = kept ticks vars
 
 turn_keeps : (c : ℤ) (to ticks : ℕ) (m : State) (loops vars : List ℤ) → ChangesIf ticks vars [] (turns_back c to m loops vars)
 turn_keeps (pos zero) to ticks m loops vars = tt
-turn_keeps (pos (suc zero)) to ticks m loops vars = kept refl refl
-turn_keeps (pos (suc (suc n))) to ticks m loops vars = kept refl refl
+turn_keeps (pos (suc zero)) to ticks m loops vars = kept ticks vars
+turn_keeps (pos (suc (suc n))) to ticks m loops vars = kept ticks vars
 turn_keeps (negsuc n) to ticks m loops vars = tt
 
 abbrev state : ℕ → ℕ → List ℤ → List ℤ → List ℤ → State
 state p k s l ls = record { place = p; spent = k; stack = s; loops = l; locals = ls }
 
-effect_changes : (i : Instr) (p k : ℕ) (s l ls vars : List ℤ) (ticks : ℕ) → ChangesIf ticks vars (written (Some i) s ticks) (effect i (state p k s l ls) vars)
-effect_changes (Push n) p k s l ls vars ticks = kept refl refl
-effect_changes (Local i) p k s l ls vars ticks = kept refl refl
-effect_changes (Var i) p k s l ls vars ticks = kept refl refl
+effect_changes : (i : Instr) (p k : ℕ) (s l ls vars : List ℤ) (ticks : ℕ) → ChangesIf ticks vars (written (Some i) (state p k s l ls) vars ticks) (effect i (state p k s l ls) vars)
+effect_changes (Push n) p k s l ls vars ticks = kept ticks vars
+effect_changes (Local i) p k s l ls vars ticks = kept ticks vars
+effect_changes (Var i) p k s l ls vars ticks = kept ticks vars
 effect_changes (SetLocal i) p k [] l ls vars ticks = tt
-effect_changes (SetLocal i) p k (x ∷ s) l ls vars ticks = kept refl refl
+effect_changes (SetLocal i) p k (x ∷ s) l ls vars ticks = kept ticks vars
 effect_changes (SetVar i) p k [] l ls vars ticks = tt
-effect_changes (SetVar i) p k (x ∷ s) l ls vars ticks = wrote i x refl refl
+effect_changes (SetVar i) p k (x ∷ s) l ls vars ticks = record { made = refl; now = (refl, tt) }
 effect_changes Neg p k [] l ls vars ticks = tt
-effect_changes Neg p k (x ∷ s) l ls vars ticks = kept refl refl
+effect_changes Neg p k (x ∷ s) l ls vars ticks = kept ticks vars
 effect_changes Not p k [] l ls vars ticks = tt
-effect_changes Not p k (x ∷ s) l ls vars ticks = kept refl refl
+effect_changes Not p k (x ∷ s) l ls vars ticks = kept ticks vars
 effect_changes (Two op) p k [] l ls vars ticks = tt
 effect_changes (Two op) p k (y ∷ []) l ls vars ticks = tt
-effect_changes (Two op) p k (y ∷ x ∷ s) l ls vars ticks = kept refl refl
+effect_changes (Two op) p k (y ∷ x ∷ s) l ls vars ticks = kept ticks vars
 effect_changes (Call op args n value) p k s l ls vars ticks =
-    choice_keeps (nat_lt (k + 1) n) ticks vars _ _ (kept refl refl) (choice_keeps (nat_le args (length s)) ticks vars _ _ (kept refl refl) tt)
-effect_changes (Send o n) p k s l ls vars ticks = choice_keeps (nat_le n (length s)) ticks vars _ _ (kept refl refl) tt
+    choice_keeps (nat_lt (k + 1) n) ticks vars _ _ (kept ticks vars) (choice_keeps (nat_le args (length s)) ticks vars _ _ (kept ticks vars) tt)
+effect_changes (Send o n) p k s l ls vars ticks = choice_keeps (nat_le n (length s)) ticks vars _ _ (kept ticks vars) tt
 effect_changes (JumpZero to) p k [] l ls vars ticks = tt
-effect_changes (JumpZero to) p k (x ∷ s) l ls vars ticks = kept refl refl
-effect_changes (Jump to) p k s l ls vars ticks = kept refl refl
+effect_changes (JumpZero to) p k (x ∷ s) l ls vars ticks = kept ticks vars
+effect_changes (Jump to) p k s l ls vars ticks = kept ticks vars
 effect_changes (Loop most to) p k [] l ls vars ticks = tt
 effect_changes (Loop most to) p k (x ∷ s) l ls vars ticks = enter_keeps (turns_of x most) to ticks (state p k (x ∷ s) l ls) s vars
 effect_changes (Again to) p k s [] ls vars ticks = tt
 effect_changes (Again to) p k s (c ∷ l) ls vars ticks = turn_keeps c to ticks (state p k s (c ∷ l) ls) l vars
-effect_changes End p k s l ls vars ticks = kept refl refl
+effect_changes End p k s l ls vars ticks = kept ticks vars
 
-step_changes : (o : Option Instr) (m : State) (vars : List ℤ) (ticks : ℕ) → ChangesIf ticks vars (written o m.stack ticks) (step_at o m vars)
+step_changes : (o : Option Instr) (m : State) (vars : List ℤ) (ticks : ℕ) → ChangesIf ticks vars (written o m vars ticks) (step_at o m vars)
 step_changes None m vars ticks = tt
 step_changes (Some i) m vars ticks = effect_changes i m.place m.spent m.stack m.loops m.locals vars ticks
 
@@ -109,23 +118,25 @@ pub record IsLater (v : List ℤ) (a b : Handling) : Type 0 where
   pub same : (n : ℕ) → n ≤ a.ticks → written_before n b.writes v ≡ written_before n a.writes v
 
 -- what a tick's writes make of variables, when all that came before is written
-made_by : (n ticks : ℕ) (vars news : List ℤ) (ws : List Write) → Changes ticks vars news ws → ticks < n → news ≡ written_before n ws vars
-made_by n ticks vars news ws (kept e ne) lt = e ∙ ap (λ x. written_before n x vars) (sym ne)
-made_by n ticks vars news ws (wrote i x e ne) lt =
-    let t : nat_lt ticks n ≡ true = grind (arith, nat_tests) in
-    e ∙ sym (ap (λ y. written_before n y vars) ne ∙ ap (λ b. cond b (slice_set vars i x) vars) t)
+written_by : (n ticks : ℕ) (ws : List Write) (vars : List ℤ) → AreOfTick ticks ws → ticks < n → written_before n ws vars ≡ after_writes ws vars
+written_by n ticks [] vars now lt = refl
+written_by n ticks (w ∷ rest) vars now lt =
+    let news = slice_set vars w.variable w.value in
+    let t : nat_lt w.offset n ≡ true = grind (arith, nat_tests, now.0) in
+    ap (λ b. written_before n rest (cond b news vars)) t ∙ written_by n ticks rest news now.1 lt
 
 -- and of what holds before the tick
-unmade_by : (n ticks : ℕ) (vars news v : List ℤ) (ws : List Write) → Changes ticks vars news ws → n ≤ ticks → written_before n ws v ≡ v
-unmade_by n ticks vars news v ws (kept e ne) le = ap (λ x. written_before n x v) ne
-unmade_by n ticks vars news v ws (wrote i x e ne) le =
-    let t : nat_lt ticks n ≡ false = grind (arith, nat_tests) in
-    ap (λ y. written_before n y v) ne ∙ ap (λ b. cond b (slice_set v i x) v) t
+unwritten_by : (n ticks : ℕ) (ws : List Write) (vars : List ℤ) → AreOfTick ticks ws → n ≤ ticks → written_before n ws vars ≡ vars
+unwritten_by n ticks [] vars now le = refl
+unwritten_by n ticks (w ∷ rest) vars now le =
+    let news = slice_set vars w.variable w.value in
+    let t : nat_lt w.offset n ≡ false = grind (arith, nat_tests, now.0) in
+    ap (λ b. written_before n rest (cond b news vars)) t ∙ unwritten_by n ticks rest vars now.1 le
 
 logged_on : (v : List ℤ) (a b : Handling) → Follows a b → IsLogged v a → IsLogged v b
 logged_on v a b f h = record {
   all = λ n le.
-      made_by n a.ticks a.vars b.vars f.writes f.changes (omega (arith, f.ticks))
+      f.changes.made ∙ sym (written_by n a.ticks f.writes a.vars f.changes.now (omega (arith, f.ticks)))
       ∙ ap (written_before n f.writes) (h.all n (omega (arith, f.ticks)))
       ∙ sym (ap (λ x. written_before n x v) f.all_writes ∙ written_before-append n a.writes f.writes v);
 }
@@ -135,7 +146,7 @@ later_on v a b f = record {
   ticks = omega (arith, f.ticks);
   sends = f.sends;
   same = λ n le.
-      ap (λ x. written_before n x v) f.all_writes ∙ written_before-append n a.writes f.writes v ∙ unmade_by n a.ticks a.vars b.vars (written_before n a.writes v) f.writes f.changes le;
+      ap (λ x. written_before n x v) f.all_writes ∙ written_before-append n a.writes f.writes v ∙ unwritten_by n a.ticks f.writes (written_before n a.writes v) f.changes.now le;
 }
 
 later_still : (v : List ℤ) (a x y : Handling) → IsLater v a x → IsLater v x y → IsLater v a y

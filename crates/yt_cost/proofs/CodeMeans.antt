@@ -1,7 +1,7 @@
 -- Compiled code that is executed alone does what the handler means.
-use Rattle.std.proofs.Common.{◌≡◌, ℕ, ◌+◌, ◌-◌, List, [], ◌∷◌, ◌++◌, Some, refl, sym, ap, ◌∙◌, subst, arith, append-nil}
+use Rattle.std.proofs.Common.{◌≡◌, ℕ, ◌+◌, ◌-◌, List, [], ◌∷◌, ◌++◌, length, Some, refl, sym, ap, ◌∙◌, subst, arith, append-nil}
 use Rattle.std.specs.Prelude.{ℤ, slice_get}
-use Rattle.yt_graph.specs.Picture.{PortTree}
+use Rattle.yt_graph.specs.Picture.{PortTree, GraphTree}
 use Rattle.yt_graph.specs.Meaning.{Run, spend, block_run, start, handling_of, handling}
 use Rattle.yt_code.specs.declared.instr.Instr.{Instr}
 use Rattle.yt_code.specs.declared.instr.Instr.TheVariants.{End}
@@ -19,18 +19,18 @@ use Rattle.yt_cost.proofs.CodeLogs.{counts, logged, on_the_way}
 -- the tick at the end
 end_tick : (code : List Instr) (p : ℕ) (w : Run) → slice_get code p ≡ Some End → tick_alone code (at p [] [] w) ≡ Some (record { progress = record { machine = at_place p [] [] w.locals; so_far = handling_of (spend 1 w) }; stepped = Ended })
 end_tick code p w h =
-    ap (λ o. advance (written o [] w.ticks) (handling_of w) (step_at o (at_place p [] [] w.locals) w.vars)) h
+    ap (λ o. advance (written o (at_place p [] [] w.locals) w.vars w.ticks) (handling_of w) (step_at o (at_place p [] [] w.locals) w.vars)) h
     ∙ ap (λ x. Some (record { progress = record { machine = at_place p [] [] w.locals; so_far = record { vars = w.vars; sends = x; ticks = w.ticks + 1; writes = w.writes ++ [] } }; stepped = Ended })) (append-nil w.sends)
     ∙ ap (λ x. Some (record { progress = record { machine = at_place p [] [] w.locals; so_far = record { vars = w.vars; sends = w.sends; ticks = w.ticks + 1; writes = x } }; stepped = Ended })) (append-nil w.writes)
 
-does_port : (count : ℕ) (port : PortTree) → IsHandlerFit count port → (msg vars : List ℤ) → Does (port_code count port) msg vars (handling port msg vars)
-does_port count port fit msg vars =
+does_port : (graph : GraphTree) (port : PortTree) → IsHandlerFit graph port → (msg vars : List ℤ) → Does (port_code graph port) msg vars (handling graph port msg vars)
+does_port graph port fit msg vars =
     let code = handler_code port.body in
     let w = start port.locals msg vars in
     let a = at 0 [] [] w in
     let last = at (0 + block_size port.body) [] [] (block_run port.body w) in
     let has = has_all code [] in
-    let way = (block_goes code port.locals count port.body 0 [] [] w (fits count port fit).body (has_front code 0 (block_code port.body 0) (End ∷ []) has)).by 0 in
+    let way = (block_goes code port.locals (length graph.vars) port.body 0 [] [] w (fits graph port fit).body (has_front code 0 (block_code port.body 0) (End ∷ []) has)).by 0 in
     let end = (has_back code 0 (block_size port.body) (block_code port.body 0) (End ∷ []) (length-block_code port.body 0) has).0 in
     let taken = counts code way.0 a last way.1 in
     let ticks : way.0 ≡ (block_run port.body w).ticks + 1 - 1 = omega (arith, taken) in
@@ -43,8 +43,8 @@ does_port count port fit msg vars =
         vars_now = (logged code a refl way.0 last way.1).all ((block_run port.body w).ticks + 1) (omega arith);
         sends = ([], sym (append-nil (block_run port.body w).sends));
       };
-      on_the_way = λ n lt. on_the_way code a refl refl way.0 last way.1 (handling port msg vars) refl refl n (omega (arith, taken));
+      on_the_way = λ n lt. on_the_way code a refl refl way.0 last way.1 (handling graph port msg vars) refl refl n (omega (arith, taken));
     }
 
 pub means_port : CompiledMeansPort
-means_port count port fit = record { each = does_port count port fit }
+means_port graph port fit = record { each = does_port graph port fit }

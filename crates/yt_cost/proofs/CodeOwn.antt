@@ -103,11 +103,11 @@ no_use g p true h e = absurd (omega (arith, h.0, e))
 no_use g p false h e = refl
 
 -- so code that uses the variables which such a port's handler names keeps to the port's process
-pub owns : (g : GraphTree) (p : PortTree) (code : Program) → IsFinePort g p → UsesVarsOf code p → UsesOwnVars g code p
+pub owns : (g : GraphTree) (p : PortTree) (code : Program) → IsFinePort g p → UsesVarsOf g code p → UsesOwnVars g code p
 owns g p code fine same = record {
   of_process = subst (λ xs. All (IsVarOf g p.process) xs) (sym same) (block_own g p p.body fine.10);
   none = λ e. same ∙ block_none p.body (no_use g p (block_uses_var p.body) fine.11 e);
 }
 
 pub uses_own : CompiledUsesOwnVars
-uses_own g p vars fine = owns g p (port_code vars p) fine (uses_vars vars p)
+uses_own g p fine = owns g p (port_code g p) fine (uses_vars g p)

@@ -2,7 +2,7 @@
 use Rattle.std.proofs.Common.{◌≡◌, ℕ, zero, suc, ◌+◌, ◌*◌, ◌^◌, ◌≤◌, ◌<◌, max, List, [], ◌∷◌, length, refl, arith}
 use Rattle.std.proofs.Math.Nat.{mul-le-mul_left, mul-le-mul_right}
 use Rattle.yt_graph.specs.declared.expr.Expr.{Expr}
-use Rattle.yt_graph.specs.Picture.{ExprTree, num, local, var, neg, lnot, two, call, ExprsTree, no_exprs, more_exprs, StmtTree, set_local, set_var, send, if_only, if_else, repeat, BlockTree, empty, more, PortTree, exprs_tree}
+use Rattle.yt_graph.specs.Picture.{ExprTree, num, local, var, neg, lnot, two, call, ExprsTree, no_exprs, more_exprs, StmtTree, set_local, set_var, send, if_only, if_else, repeat, BlockTree, empty, more, PortTree, GraphTree, exprs_tree}
 use Rattle.yt_graph.specs.Meaning.{expr_ticks, all_ticks}
 use Rattle.yt_graph.specs.Cost.{stmt_cost, block_cost}
 use Rattle.yt_graph.specs.WellFormed.{exprs_count, stmt_depth, block_depth}
@@ -85,7 +85,7 @@ mutual
       let rest_low : block_depth rest ≤ suc d = omega (arith, k) in
       omega (arith, stmt_short d lc vc a f.0 low, block_short d lc vc rest f.1 rest_low)
 
-pub short : (vars : ℕ) (port : PortTree) → IsHandlerFit vars port → block_size port.body < 2 ^ 32
-short vars port given =
-    let fit = fits vars port given in
-    omega (arith, block_short 7 port.locals vars port.body fit.body fit.depth, fit.cost)
+pub short : (graph : GraphTree) (port : PortTree) → IsHandlerFit graph port → block_size port.body < 2 ^ 32
+short graph port given =
+    let fit = fits graph port given in
+    omega (arith, block_short 7 port.locals (length graph.vars) port.body fit.body fit.depth, fit.cost)

@@ -1,6 +1,6 @@
 -- Code uses the very variables that its tree names.
 use Rattle.std.proofs.Common.{◌≡◌, ℕ, ◌+◌, List, [], ◌∷◌, ◌++◌, refl, sym, ap, ◌∙◌, append_assoc, append-nil}
-use Rattle.yt_graph.specs.Picture.{ExprTree, num, local, var, neg, lnot, two, call, ExprsTree, no_exprs, more_exprs, StmtTree, set_local, set_var, send, if_only, if_else, repeat, BlockTree, empty, more, PortTree}
+use Rattle.yt_graph.specs.Picture.{ExprTree, num, local, var, neg, lnot, two, call, ExprsTree, no_exprs, more_exprs, StmtTree, set_local, set_var, send, if_only, if_else, repeat, BlockTree, empty, more, PortTree, GraphTree}
 use Rattle.yt_code.specs.declared.instr.Instr.{Instr}
 use Rattle.yt_code.specs.declared.instr.Instr.TheVariants.{SetLocal, SetVar, Neg, Not, Two, Call, Send, JumpZero, Jump, Loop, Again, End}
 use Rattle.yt_graph.specs.WellFormed.{exprs_count}
@@ -55,5 +55,5 @@ mutual
   block_uses (more a rest) p =
       both (stmt_code a p) (block_code rest (p + stmt_size a)) _ _ (stmt_uses a p) (block_uses rest (p + stmt_size a))
 
-pub uses_vars : (vars : ℕ) (port : PortTree) → UsesVarsOf (port_code vars port) port
-uses_vars vars port = no_more (block_code port.body 0) (End ∷ []) (block_vars port.body) (block_uses port.body 0) refl
+pub uses_vars : (graph : GraphTree) (port : PortTree) → UsesVarsOf graph (port_code graph port) port
+uses_vars graph port = no_more (block_code port.body 0) (End ∷ []) (block_vars port.body) (block_uses port.body 0) refl

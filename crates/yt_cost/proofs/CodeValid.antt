@@ -139,11 +139,11 @@ module _ (all : List Shape) (code : Program) where
         fine_join p n (stmt_code a p) (block_code rest (p + n)) (stmt_shapes a o) (block_shapes rest o) (length-stmt_code a p) (stmt_fine a p o f.0 (omega (arith, k)) (has_front all p (stmt_shapes a o) _ st) (block_starts all rest (p + n) o hr on)) (block_fine rest (p + n) o f.1 (omega (arith, k)) hr on)
 
 pub is_valid : CompiledIsValid
-is_valid vars port given =
-    let fit = fits vars port given in
+is_valid graph port given =
+    let fit = fits graph port given in
     let body = port.body in
     let n = block_size body in
-    let code = port_code vars port in
+    let code = port_code graph port in
     let all = block_shapes body 0 ++ shape 0 0 ∷ [] in
     let stands = has_all all [] in
     let front = has_front all 0 (block_shapes body 0) _ stands in

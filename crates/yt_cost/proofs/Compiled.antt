@@ -7,6 +7,8 @@ use Rattle.std.proofs.lemmas.Bool.Decides.{nat_tests}
 use Rattle.std.proofs.Math.Seq.{drop-length}
 use Rattle.std.proofs.lemmas.List.Elements.{All-get_or}
 use Rattle.std.proofs.lemmas.Option.{none-some, same_Some, slice_get_within, slice_get-map, get_or_from_slice_get}
+use Rattle.yt_list.specs.Numbered.{numbered, numbered_or}
+use Rattle.yt_list.proofs.Lemmas.{numbered_or_place, numbered_there}
 pub use Rattle.yt_list.proofs.Lemmas.{drop_at}
 use Rattle.yt_graph.specs.declared.port.OutHead.{OutHead}
 use Rattle.yt_graph.specs.declared.port.Port.{Port}
@@ -26,12 +28,10 @@ fine_port g k p well there =
     subst (IsFinePort g) (get_or_from_slice_get g.ports k p p there) (All-get_or (IsFinePort g) g.ports k p (slice_get_within g.ports k p there) well.each_port)
 
 -- a port of a graph without calls can be compiled where it takes no more ticks than it may
-pub port_fits : (g : GraphTree) (k : ℕ) (p : PortTree) → IsWellFormed g → HasNoCalls g → slice_get g.ports k ≡ Some p → greatest_cost p ≤ 1000000 → IsHandlerFit (length g.vars) p
+pub port_fits : (g : GraphTree) (k : ℕ) (p : PortTree) → IsWellFormed g → HasNoCalls g → slice_get g.ports k ≡ Some p → greatest_cost p ≤ 1000000 → IsHandlerFit g p
 port_fits g k p well calls there cost =
     let P : PortTree → Type 0 = λ q. block_calls q.body ≡ false in
     record {
-      graph = g;
-      all_vars = refl;
       well_formed = fine_port g k p well there;
       no_calls = subst P (get_or_from_slice_get g.ports k p p there) (All-get_or P g.ports k p (slice_get_within g.ports k p there) calls);
       cost = cost;
@@ -58,6 +58,14 @@ each_more R xs ys x y each there new n a at b is =
           subst (R a) h.1 (subst (λ z. R z y) same new)
     ]
 
+-- and so by their numbers
+pub by_numbers : {A B : Type 0} (R : A → B → Type 0) (xs : List A) (ys : List B) → ((k : ℕ) (a : A) → slice_get xs k ≡ Some a → (b : B) → slice_get ys k ≡ Some b → R a b) → (n : ℕ) (a : A) → numbered xs n ≡ Some a → (b : B) → numbered ys n ≡ Some b → R a b
+by_numbers R xs ys each n a at b is = each (n - 1) a (numbered_there xs n a at).1 b (numbered_there ys n b is).1
+
+-- the one item of a number
+pub same_number : {X : Type 0} (xs : List X) (n : ℕ) (x y : X) → slice_get xs (n - 1) ≡ Some x → numbered xs n ≡ Some y → x ≡ y
+same_number xs n x y here at = let there = (numbered_there xs n y at).1 in cc
+
 index_before : (xs : List ℕ) (x k : ℕ) → k < length xs → slice_index (xs ++ x ∷ []) k ≡ slice_index xs k
 index_before [] x k lt = absurd (omega arith)
 index_before (y ∷ xs) x zero lt = refl
@@ -75,13 +83,17 @@ at_most a b le = elim_lt (nat_lt b a) refl
     elim_lt false e = inl (grind (arith, nat_tests))
 
 -- the numbers of outs with one more out
-pub outs_more : (f : ℕ → ℕ) (xs : List ℕ) (x n : ℕ) → length xs ≡ n → x ≡ f (n + 1) → ((out : ℕ) → 1 ≤ out → out ≤ n → slice_index xs (out - 1) ≡ f out) → (out : ℕ) → 1 ≤ out → out ≤ n + 1 → slice_index (xs ++ x ∷ []) (out - 1) ≡ f out
+pub outs_more : (f : ℕ → ℕ) (xs : List ℕ) (x n : ℕ) → length xs ≡ n → x ≡ f (n + 1) → ((out : ℕ) → 1 ≤ out → out ≤ n → numbered_or xs out 0 ≡ f out) → (out : ℕ) → 1 ≤ out → out ≤ n + 1 → numbered_or (xs ++ x ∷ []) out 0 ≡ f out
 outs_more f xs x n count is each out low high =
     elim (at_most out n high) [
-      | inl h ↦ index_before xs x (out - 1) (omega (arith, h)) ∙ each out low h
+      | inl h ↦
+          numbered_or_place (xs ++ x ∷ []) out 0 low
+          ∙ index_before xs x (out - 1) (omega (arith, h))
+          ∙ sym (numbered_or_place xs out 0 low) ∙ each out low h
       | inr h ↦
           let place : out - 1 ≡ length xs = omega (arith, h) in
-          ap (slice_index (xs ++ x ∷ [])) place ∙ (index_last xs x ∙ (is ∙ ap f (sym h)))
+          numbered_or_place (xs ++ x ∷ []) out 0 low
+          ∙ ap (slice_index (xs ++ x ∷ [])) place ∙ (index_last xs x ∙ (is ∙ ap f (sym h)))
     ]
 
 -- the items from a place on begin with one where the place is there

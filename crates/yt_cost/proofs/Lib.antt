@@ -9,6 +9,7 @@ mod CodeUses
 mod CodeShort
 mod CodeMade
 mod CodeKeeps
+mod CodesWithin
 mod Compiled
 mod CodeOwn
 pub mod Lemmas

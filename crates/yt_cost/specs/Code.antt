@@ -1,6 +1,6 @@
 -- The instructions of a tree. A jump names a place, so a statement's instructions hang on where they stand.
-use Rattle.std.specs.Prelude.{ℕ, ◌+◌, List, [], ◌∷◌, ◌++◌}
-use Rattle.yt_graph.specs.Picture.{ExprTree, num, local, var, neg, lnot, two, call, ExprsTree, no_exprs, more_exprs, StmtTree, set_local, set_var, send, if_only, if_else, repeat, BlockTree, empty, more, PortTree}
+use Rattle.std.specs.Prelude.{ℕ, ◌+◌, List, [], ◌∷◌, ◌++◌, length}
+use Rattle.yt_graph.specs.Picture.{ExprTree, num, local, var, neg, lnot, two, call, ExprsTree, no_exprs, more_exprs, StmtTree, set_local, set_var, send, if_only, if_else, repeat, BlockTree, empty, more, PortTree, GraphTree}
 use Rattle.yt_code.specs.declared.instr.Instr.{Instr}
 use Rattle.yt_code.specs.declared.instr.Instr.TheVariants.{Push, Local, Var, SetLocal, SetVar, Neg, Not, Two, Call, Send, JumpZero, Jump, Loop, Again, End}
 use Rattle.yt_code.specs.Valid.{Program}
@@ -56,6 +56,7 @@ abbrev mutual
 abbrev pub handler_code : BlockTree → List Instr
 handler_code body = block_code body 0 ++ End ∷ []
 
--- the code of a port's handler, in a graph with so many variables
-abbrev pub port_code : ℕ → PortTree → Program
-port_code vars port = record { instrs = handler_code port.body; params = port.params; locals = port.locals; vars = vars }
+-- the code of the handler of a graph's port
+abbrev pub port_code : GraphTree → PortTree → Program
+port_code graph port =
+    record { instrs = handler_code port.body; params = port.params; locals = port.locals; vars = length graph.vars }

@@ -2,7 +2,7 @@
 use Rattle.std.specs.Prelude.{◌≡◌, ℕ, zero, suc, ◌+◌, ◌-◌, ◌<◌, nat_lt, if◌then◌else◌, ℤ, List, [], ◌∷◌, ◌++◌, slice_get, slice_set, Option, None, Some}
 use Rattle.yt_graph.specs.declared.handled.SendItem.{SendItem}
 use Rattle.yt_graph.specs.declared.handled.Write.{Write}
-use Rattle.yt_graph.specs.Picture.{PortTree}
+use Rattle.yt_graph.specs.Picture.{PortTree, GraphTree}
 use Rattle.yt_graph.specs.Meaning.{Handling, handling}
 use Rattle.yt_code.specs.declared.instr.Instr.{Instr}
 use Rattle.yt_code.specs.declared.instr.Instr.TheVariants.{SetVar}
@@ -24,10 +24,15 @@ pub record Advance : Type 0 where
   pub progress : Progress
   pub stepped : Stepped
 
--- what an instruction writes in its tick, before which so many ticks were taken
-abbrev pub written : Option Instr → List ℤ → ℕ → List Write
-written (Some (SetVar i)) (x ∷ rest) ticks = (record { offset = ticks; variable = i; value = x }) ∷ []
-written _ stack ticks = []
+-- what is written where the top is stored in a variable; nothing where there is no top
+abbrev pub writes_top : ℕ → List ℤ → ℕ → List Write
+writes_top variable [] ticks = []
+writes_top variable (x ∷ rest) ticks = (record { offset = ticks; variable = variable; value = x }) ∷ []
+
+-- what an instruction writes in its tick, in order, by the machine and the variables before it, where so many ticks were taken before
+abbrev pub written : Option Instr → State → List ℤ → ℕ → List Write
+written (Some (SetVar i)) m vars ticks = writes_top i m.stack ticks
+written _ m vars ticks = []
 
 -- what a tick leaves of a handling
 abbrev pub with_tick : List Write → Handling → Tick → Handling
@@ -42,7 +47,7 @@ advance writes h (Some t) =
 -- one tick of code that is executed alone
 abbrev pub tick_alone : List Instr → Progress → Option Advance
 tick_alone instrs p =
-    advance (written (slice_get instrs p.machine.place) p.machine.stack p.so_far.ticks) p.so_far (instruction_step instrs p.machine p.so_far.vars)
+    advance (written (slice_get instrs p.machine.place) p.machine p.so_far.vars p.so_far.ticks) p.so_far (instruction_step instrs p.machine p.so_far.vars)
 
 -- the progress where the handling goes on
 abbrev pub going : Option Advance → Option Progress
@@ -88,10 +93,10 @@ pub record Does (code : Program) (msg vars : List ℤ) (whole : Handling) : Type
   pub at_end : IsAfter whole.ticks vars whole whole
   pub on_the_way : (n : ℕ) → n < whole.ticks → (p : Progress) × (ticks_alone code.instrs n (begin_alone code msg vars) ≡ Some p) × IsAfter n vars p.so_far whole
 
--- the code does what the port's handler means, for each message and all variables
-pub record MeansPort (code : Program) (port : PortTree) : Type 0 where
-  pub each : (msg vars : List ℤ) → Does code msg vars (handling port msg vars)
+-- the code does what the handler of the graph's port means, for each message and all variables
+pub record MeansPort (graph : GraphTree) (code : Program) (port : PortTree) : Type 0 where
+  pub each : (msg vars : List ℤ) → Does code msg vars (handling graph port msg vars)
 
 -- the code of a handler does what the handler means
 abbrev pub CompiledMeansPort : Type 0
-CompiledMeansPort = (vars : ℕ) (port : PortTree) → IsHandlerFit vars port → MeansPort (port_code vars port) port
+CompiledMeansPort = (graph : GraphTree) (port : PortTree) → IsHandlerFit graph port → MeansPort graph (port_code graph port) port

@@ -1,5 +1,5 @@
 -- The handlers that can be compiled, and that their code is valid.
-use Rattle.std.specs.Prelude.{◌≡◌, ℕ, ◌≤◌, Bool, true, false, ◌||◌, length}
+use Rattle.std.specs.Prelude.{◌≡◌, ◌≤◌, Bool, true, false, ◌||◌}
 use Rattle.std.specs.List.{All}
 use Rattle.yt_graph.specs.Picture.{ExprTree, num, local, var, neg, lnot, two, call, ExprsTree, no_exprs, more_exprs, StmtTree, set_local, set_var, send, if_only, if_else, repeat, BlockTree, empty, more, PortTree, GraphTree}
 use Rattle.yt_graph.specs.WellFormed.{IsFinePort}
@@ -40,14 +40,12 @@ abbrev mutual
 abbrev pub HasNoCalls : GraphTree → Type 0
 HasNoCalls graph = All (λ p. block_calls p.body ≡ false) graph.ports
 
--- the handler is that of a well-formed port in a graph with so many variables, calls no operator, and takes no more ticks than it may
-pub record IsHandlerFit (vars : ℕ) (port : PortTree) : Type 0 where
-  pub graph : GraphTree
-  pub all_vars : length graph.vars ≡ vars
+-- the handler is that of a well-formed port of the graph, calls no operator, and takes no more ticks than it may
+pub record IsHandlerFit (graph : GraphTree) (port : PortTree) : Type 0 where
   pub well_formed : IsFinePort graph port
   pub no_calls : block_calls port.body ≡ false
   pub cost : greatest_cost port ≤ most_cost
 
 -- the code of such a handler is valid, so a machine is never stuck in it
 abbrev pub CompiledIsValid : Type 0
-CompiledIsValid = (vars : ℕ) (port : PortTree) → IsHandlerFit vars port → IsValidCode (port_code vars port)
+CompiledIsValid = (graph : GraphTree) (port : PortTree) → IsHandlerFit graph port → IsValidCode (port_code graph port)

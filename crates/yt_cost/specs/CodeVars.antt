@@ -48,9 +48,13 @@ abbrev pub instrs_vars : List Instr → List ℕ
 instrs_vars [] = []
 instrs_vars (i ∷ rest) = instr_vars i ++ instrs_vars rest
 
+-- the places of the variables that the handler of a graph's port names
+abbrev pub port_vars : GraphTree → PortTree → List ℕ
+port_vars graph port = block_vars port.body
+
 -- the code uses the very variables that the port's handler names, so none where it names none
-abbrev pub UsesVarsOf : Program → PortTree → Type 0
-UsesVarsOf code port = instrs_vars code.instrs ≡ block_vars port.body
+abbrev pub UsesVarsOf : GraphTree → Program → PortTree → Type 0
+UsesVarsOf graph code port = instrs_vars code.instrs ≡ port_vars graph port
 
 -- the code uses variables of the port's process alone, and none where the port is under no resource
 pub record UsesOwnVars (graph : GraphTree) (code : Program) (port : PortTree) : Type 0 where
@@ -60,7 +64,7 @@ pub record UsesOwnVars (graph : GraphTree) (code : Program) (port : PortTree) : 
 -- the code of each well-formed port does so
 abbrev pub CompiledUsesOwnVars : Type 0
 CompiledUsesOwnVars =
-    (graph : GraphTree) (port : PortTree) (vars : ℕ) → IsFinePort graph port → UsesOwnVars graph (port_code vars port) port
+    (graph : GraphTree) (port : PortTree) → IsFinePort graph port → UsesOwnVars graph (port_code graph port) port
 
 -- the same number of variables, with the same values at these places
 pub record AgreeAt (places : List ℕ) (vs ws : List ℤ) : Type 0 where

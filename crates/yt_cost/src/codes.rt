@@ -1,12 +1,14 @@
 //! What is kept of a graph's handlers.
 
-ghost use Rattle.std.specs.Prelude.{◌≡◌, ◌-◌, ◌≤◌, length, slice_index};
-ghost use Rattle.yt_cost.specs.Codes.{ForCode};
+ghost use Rattle.std.specs.Prelude.{◌≡◌, ◌≤◌, length};
+ghost use Rattle.std.specs.List.{All};
+ghost use Rattle.yt_list.specs.Numbered.{numbered_or};
+ghost use Rattle.yt_cost.specs.Codes.{ForCode, IsCodeWithin};
 
-use crate::limits::MOST_OUTS;
 use arrayvec::ArrayVec;
 use std::marker::Model;
 use yt_code::Code;
+use yt_graph::MOST_OUTS;
 use yt_list::Items;
 
 /// What is kept of a port. A contract sees the code, the greatest cost, and the list of the greatest numbers of sends.
@@ -41,19 +43,31 @@ pub struct Codes {
 
 impl Model for Codes {
     ghost use Rattle.std.specs.Prelude.{List};
-    ghost use Rattle.yt_cost.specs.Codes.{PortCode};
+    ghost use Rattle.std.specs.List.{All};
+    ghost use Rattle.yt_cost.specs.Codes.{PortCode, IsCodeWithin};
 
     ghost Value = { List PortCode };
 
     ghost view = { λ c. c.ports };
+
+    ghost invariant = { λ c. All IsCodeWithin c.ports };
 }
 
 impl Codes {
-    // The codes of ports in order.
+    // The codes of ports in order, which are within the limits.
     pub(crate) fn new(ports: Items<Kept>) -> Self
+        requires { All IsCodeWithin ports }
         ensures { result ≡ ports }
     {
         Codes { ports }
+    }
+
+    /// How many ports there are. Whatever the codes, no handler may take more ticks or send more messages than it may.
+    pub fn len(&self) -> usize
+        ensures len { result ≡ length self.now }
+        ensures limits { All IsCodeWithin self.now }
+    {
+        self.ports.len()
     }
 
     /// The code of the port of this number, from 1. The caller shows that the port is there.
@@ -81,7 +95,7 @@ impl Codes {
         requires last { port ≤ length self.now }
         requires first_out { 1 ≤ out }
         requires last_out { ForCode self.now port (λ kept. out ≤ length kept.sends) }
-        ensures { ForCode self.now port (λ kept. result ≡ slice_index kept.sends (out - 1)) }
+        ensures { ForCode self.now port (λ kept. result ≡ numbered_or kept.sends out 0) }
     {
         self.ports.at(port as usize - 1).sends[out as usize - 1]
     }

@@ -5,7 +5,7 @@ ghost use Rattle.std.specs.List.{All};
 ghost use Rattle.std.specs.Option.{option_map};
 ghost use Rattle.yt_graph.specs.Picture.{graph_tree, port_tree};
 ghost use Rattle.yt_graph.specs.Cost.{greatest_cost};
-ghost use Rattle.yt_graph.specs.Limits.{most_cost, most_outs};
+ghost use Rattle.yt_graph.specs.Limits.{most_cost, most_outs, most_vars};
 ghost use Rattle.yt_graph.specs.WellFormed.{IsWellFormed};
 ghost use Rattle.yt_cost.specs.CodeFit.{HasNoCalls, IsHandlerFit};
 ghost use Rattle.yt_cost.specs.Codes.{IsCodeOf, AreCodesOf, AreSendsOf};
@@ -14,12 +14,12 @@ ghost use Rattle.yt_cost.specs.Faults.{IsWithinLimits, crowded_out, port_fault, 
 use crate::codes::{Codes, Kept};
 use crate::emit::compile_port;
 use crate::fault::CostFault;
-use crate::limits::{MOST_OUTS, MOST_SENDS, MOST_TICKS};
+use crate::limits::{MOST_SENDS, MOST_TICKS};
 use crate::sends::sends_in_all;
 use crate::ticks::block_ticks;
 use arrayvec::ArrayVec;
 use std::alloc::Global;
-use yt_graph::{Graph, Port};
+use yt_graph::{Graph, MOST_OUTS, Port};
 use yt_list::Items;
 
 /// Compiles the handler of each port. The caller shows that the graph is well formed and that no handler calls an operator.
@@ -38,20 +38,20 @@ pub fn compile(alloc: Global, graph: &Graph) -> Result<Codes, CostFault>
     // Otherwise the fault is the one that decides, or memory ran out.
     ensures err { IfErr result (λ fault. IsFaultOf (cost_fault (graph_tree graph.now)) fault) }
 {
-    let vars = graph.vars.len() as u32;
     let mut ports: Items<Kept> = Items::new(alloc);
     for place in 0..graph.ports.len() {
-        let kept = compile_one(alloc, place as u32 + 1, graph.ports.at(place), vars)?;
+        let kept = compile_one(alloc, graph, place as u32 + 1, graph.ports.at(place))?;
         ports.push(kept)?;
     }
     Ok(Codes::new(ports))
 }
 
-// What is kept of the port of this number, from 1, in a graph with so many variables; or its fault.
-fn compile_one(alloc: Global, number: u32, port: &Port, vars: u32) -> Result<Kept, CostFault>
-    requires fit { greatest_cost (port_tree port.now) ≤ most_cost → IsHandlerFit vars (port_tree port.now) }
+// What is kept of the port of this number, from 1, of a graph; or its fault.
+fn compile_one(alloc: Global, graph: &Graph, number: u32, port: &Port) -> Result<Kept, CostFault>
+    requires fit { greatest_cost (port_tree port.now) ≤ most_cost → IsHandlerFit (graph_tree graph.now) (port_tree port.now) }
+    requires few_vars { length graph.now.vars ≤ most_vars }
     requires few_outs { length port.now.outs ≤ most_outs }
-    ensures kept { IfOk result (λ kept. IsCodeOf vars (port_tree port.now) kept) }
+    ensures kept { IfOk result (λ kept. IsCodeOf (graph_tree graph.now) (port_tree port.now) kept) }
     ensures no_fault { IfOk result (λ _. port_fault number (port_tree port.now) ≡ None) }
     ensures err { IfErr result (λ fault. IsFaultOf (port_fault number (port_tree port.now)) fault) }
 {
@@ -63,7 +63,7 @@ fn compile_one(alloc: Global, number: u32, port: &Port, vars: u32) -> Result<Kep
         });
     }
     let sends = sends_of_outs(number, port)?;
-    let code = compile_port(alloc, port, vars)?;
+    let code = compile_port(alloc, graph, port)?;
     Ok(Kept { code, cost, sends })
 }
 

@@ -1,7 +1,8 @@
 //! The compiler of a handler.
 
-ghost use Rattle.std.specs.Prelude.{◌≡◌, ◌+◌, ◌<◌, ◌^◌, [], ◌∷◌, ◌++◌, length, OnOk, IfOk};
-ghost use Rattle.yt_graph.specs.Picture.{expr_tree, exprs_tree, stmt_tree, block_tree, port_tree};
+ghost use Rattle.std.specs.Prelude.{◌≡◌, ◌+◌, ◌<◌, ◌≤◌, ◌^◌, [], ◌∷◌, ◌++◌, length, OnOk, IfOk};
+ghost use Rattle.yt_graph.specs.Picture.{expr_tree, exprs_tree, stmt_tree, block_tree, port_tree, graph_tree};
+ghost use Rattle.yt_graph.specs.Limits.{most_vars};
 ghost use Rattle.yt_graph.specs.WellFormed.{exprs_count};
 ghost use Rattle.yt_cost.specs.CodeSizes.{expr_size, exprs_size, stmt_size, block_size};
 ghost use Rattle.yt_cost.specs.Code.{expr_code, exprs_code, stmt_code, block_code, port_code};
@@ -11,18 +12,20 @@ ghost use Rattle.yt_cost.specs.CodeVars.{UsesVarsOf};
 
 use std::alloc::{AllocError, Global};
 use yt_code::{Code, Instr, Instrs};
-use yt_graph::{Expr, ExprParts, Parts, Port, Stmt, open, open_expr};
+use yt_graph::{Expr, ExprParts, Graph, Parts, Port, Stmt, open, open_expr};
 
-/// The code of a port's handler, in a graph with so many variables.
-pub(crate) fn compile_port(alloc: Global, port: &Port, vars: u32) -> Result<Code, AllocError>
-    requires { IsHandlerFit vars (port_tree port.now) }
-    ensures code { IfOk result (λ code. code ≡ port_code vars (port_tree port.now)) }
-    ensures meaning { IfOk result (λ code. MeansPort code (port_tree port.now)) }
-    ensures own_vars { IfOk result (λ code. UsesVarsOf code (port_tree port.now)) }
+/// The code of the handler of a graph's port.
+pub(crate) fn compile_port(alloc: Global, graph: &Graph, port: &Port) -> Result<Code, AllocError>
+    requires fit { IsHandlerFit (graph_tree graph.now) (port_tree port.now) }
+    requires few_vars { length graph.now.vars ≤ most_vars }
+    ensures code { IfOk result (λ code. code ≡ port_code (graph_tree graph.now) (port_tree port.now)) }
+    ensures meaning { IfOk result (λ code. MeansPort (graph_tree graph.now) code (port_tree port.now)) }
+    ensures own_vars { IfOk result (λ code. UsesVarsOf (graph_tree graph.now) code (port_tree port.now)) }
 {
     let mut code = Instrs::new(alloc);
     emit_block(&mut code, &port.body, 0)?;
     code.push(Instr::End)?;
+    let vars = graph.vars.len() as u32;
     Ok(Code::new(code, port.params, port.locals, vars))
 }
 

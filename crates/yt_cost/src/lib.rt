@@ -22,4 +22,4 @@ pub use laws::{
     compiled_code_is_valid, compiled_code_means_its_port, compiled_code_uses_own_variables,
     steps_keep_to_variables,
 };
-pub use limits::{MOST_OUTS, MOST_SENDS, MOST_TICKS};
+pub use limits::{MOST_SENDS, MOST_TICKS};

@@ -5,6 +5,3 @@ pub const MOST_TICKS: u64 = 1_000_000;
 
 /// The most messages that a handling may send on an out. Definitions cite it too.
 pub const MOST_SENDS: u32 = 64;
-
-/// The most outs of a port.
-pub const MOST_OUTS: usize = 8;

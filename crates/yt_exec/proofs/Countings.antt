@@ -11,7 +11,7 @@ use Rattle.yt_log.specs.Plan.{its_task, jobs_of, IsNext, IsLegalAfter, IsLegal}
 use Rattle.yt_log.proofs.Lemmas.{jobs_of-cons, good_item}
 use Rattle.yt_log.proofs.Lemmas.{has_push, jobs_push_same, jobs_push_other, jobs_none}
 use Rattle.yt_exec.specs.declared.counts.Count.{Count}
-use Rattle.yt_exec.specs.Counting.{no_count, count_at, cost_at, left_at}
+use Rattle.yt_exec.specs.Inside.Counting.{no_count, count_at, cost_at, left_at}
 
 -- an item of a legal plan may follow those before it
 record IsNextIn (tasks : List Task) (before xs : List PlanItem) (x : PlanItem) : Type 0 where

@@ -25,7 +25,7 @@ use Rattle.yt_exec.specs.declared.executive.Ticked.TheVariants.{Idle, Ran}
 use Rattle.yt_exec.specs.Bodies.{IsKnown, task_in, Runs}
 use Rattle.yt_exec.specs.Moments.{Moment, no_release, release_of, job_in, released, start, IsNextJob}
 use Rattle.yt_exec.specs.StandsFor.{last_release, StandsFor, IsBodyOf, GoesOnWith, GoesOnTo, IsTick, item_at, job_run, plan_after, with_cost}
-use Rattle.yt_exec.specs.Counting.{cost_at, left_at, Leaves, MayBegin, IsPlaying}
+use Rattle.yt_exec.specs.Inside.Counting.{cost_at, left_at, Leaves, MayBegin, IsPlaying}
 use Rattle.yt_exec.proofs.Changes.{with_same}
 use Rattle.yt_exec.proofs.Countings.{take_push, drop_push, split, next_item, later_items, has_taken, has_dropped}
 use Rattle.yt_exec.proofs.Readings.{none_in}
@@ -46,7 +46,7 @@ module _ (tasks : List Task) (plan : List PlanItem) (legal : IsLegal tasks plan)
     pub item_known : IsKnown m.tasks x.job
     item_known = (next.from_one, next.in_set)
 
-    module _ (due : x.arrival ≤ m.clock) where
+    module _ (arrived : x.arrival ≤ m.clock) where
       pub item_may_come : IsNextJob m x.job
       item_may_come =
           let t = x.job.task in
@@ -111,7 +111,7 @@ module _ (tasks : List Task) (plan : List PlanItem) (legal : IsLegal tasks plan)
       (body : IsBodyOf new tasks (left_at rows_after) (MayBegin tasks rows_after))
       (goes : GoesOnTo m new (left_at rows) (left_at rows_after) ticked)
       (told_to : log_after ≡ log ++ job_run ticked ∷ [])
-      (not_due : (i : PlanItem) → Has (drop k plan) i → m.clock < i.arrival) where
+      (not_arrived : (i : PlanItem) → Has (drop k plan) i → m.clock < i.arrival) where
     keeps : (t : Ticked) → IsTick Begun Stepped (left_at rows_after) m new rows rows_after t → (j : Job) → cost_at rows_after j ≡ cost_at rows j
     keeps Idle h j = ap (λ (rs : List (List Count)). cost_at rs j) h.3
     keeps (Ran job ended) h j = by_run h.0.begun h.3
@@ -162,12 +162,12 @@ module _ (tasks : List Task) (plan : List PlanItem) (legal : IsLegal tasks plan)
           body = body;
           told = λ i has. keeps ticked is_tick i.job ∙ p.told i has;
           room = let r = p.room in let s = grows ticked is_tick in omega arith;
-          later = λ i has. let d = not_due i has in omega arith;
+          later = λ i has. let d = not_arrived i has in omega arith;
         }
 
   -- what is left arrives no earlier than the next item
-  pub none_due : ((x : PlanItem) → k < length plan → get_or plan k x ≡ x → m.clock < x.arrival) → (i : PlanItem) → Has (drop k plan) i → m.clock < i.arrival
-  none_due first i has =
+  pub none_arrived : ((x : PlanItem) → k < length plan → get_or plan k x ≡ x → m.clock < x.arrival) → (i : PlanItem) → Has (drop k plan) i → m.clock < i.arrival
+  none_arrived first i has =
       ⊎_elim
       (λ (h : k < length plan).
       let x = get_or plan k i in

@@ -25,12 +25,12 @@ pub task_read : (tasks : List Task) (n : ℕ) (x : Task) → 1 ≤ n → n ≤ l
 task_read tasks n x a b e = e ∙ get_or_default tasks (n - 1) x no_task (omega arith) ∙ sym (task_at tasks n a)
 
 -- the entry of a released job
-pub put_released : (xs ys : List Entry) (tasks : List Task) (now : ℕ) (job : Job) (x : Task) → x ≡ task_of tasks job.task →
-    HasOneMore xs (record { deadline = now + x.period; begun = false; arrival = now; task = job.task; number = job.number }) ys → HasOneMore xs (released tasks now job) ys
-put_released xs ys tasks now job x e h =
-    let made : Task → Entry = λ y. record { deadline = now + within y; begun = false; arrival = now; task = job.task; number = job.number } in
-    let P : Task → Type 0 = λ y. HasOneMore xs (made y) ys in
-    subst P e h
+pub put_released : (xs ys : List Entry) (tasks : List Task) (now : ℕ) (job : Job) (x : Task) (deadline : ℕ) → x ≡ task_of tasks job.task → deadline ≡ now + within x →
+    HasOneMore xs (record { deadline = deadline; begun = false; arrival = now; task = job.task; number = job.number }) ys → HasOneMore xs (released tasks now job) ys
+put_released xs ys tasks now job x deadline e is h =
+    let made : ℕ → Entry = λ d. record { deadline = d; begun = false; arrival = now; task = job.task; number = job.number } in
+    let P : ℕ → Type 0 = λ d. HasOneMore xs (made d) ys in
+    subst P (is ∙ ap (λ (y : Task). now + within y) e) h
 
 -- the floor of a task's resource
 pub floor_read : (tasks : List Task) (floors : List (Option ℕ)) (n : ℕ) (r : Option ℕ) → floors ≡ map (λ task. floor_of tasks task.resource) tasks → 1 ≤ n → n ≤ length tasks → r ≡ get_or floors (n - 1) r →

@@ -1,9 +1,10 @@
 -- What stays true of an executive.
-use Rattle.std.proofs.Common.{◌≡◌, ◌⊎◌, ℕ, ◌+◌, ◌-◌, ◌<◌, ◌≤◌, ◌^◌, true, false, List, [], length, get_or, set, replicate, Option, Some, None, refl, sym, ap, subst, ◌∙◌, inl, inr, ⊎_elim, arith, get_or-set_other, get_or-set_same}
+use Rattle.std.proofs.Common.{◌≡◌, ◌⊎◌, ℕ, zero, suc, ◌+◌, ◌-◌, ◌<◌, ◌≤◌, ◌^◌, true, false, List, [], length, get_or, set, replicate, Option, Some, None, refl, sym, ap, subst, ◌∙◌, inl, inr, ⊎_elim, arith, get_or-set_other, get_or-set_same}
 use Rattle.std.proofs.lemmas.Bool.{cases_Bool, cases_eq, cases_lt, cond-true, cond-false, both_ways}
 use Rattle.std.proofs.lemmas.List.{get_or-replicate, get_or_past, length-replicate}
 use Rattle.std.proofs.Math.ListN.{length-set}
 use Rattle.std.specs.List.{Contains}
+use Rattle.yt_list.proofs.Lemmas.{numbered_or_place}
 use Rattle.yt_set.specs.declared.task.Task.{Task}
 use Rattle.yt_set.specs.Tasks.{IsTaskSet, floor_of, within}
 use Rattle.yt_log.specs.declared.job.Job.{Job}
@@ -185,11 +186,20 @@ module _ (tasks : List Task) (entries : List Entry) (now : ℕ) (releases : List
     -- the releases after this one
     release_same : release_of after job.task ≡ new
     unfolding after
-    release_same = let l = sound.long in get_or-set_same releases (job.task - 1) new no_release (omega arith)
+    release_same =
+        let l = sound.long in
+        let o = known.0 in
+        let k = known.1 in
+        numbered_or_place after job.task no_release o ∙ get_or-set_same releases (job.task - 1) new no_release (omega arith)
 
-    release_other : (task : ℕ) → (task - 1 ≡ job.task - 1 → ⊥) → release_of after task ≡ release_of releases task
+    release_other : (task : ℕ) → (task ≡ job.task → ⊥) → release_of after task ≡ release_of releases task
     unfolding after
-    release_other task ne = get_or-set_other releases (job.task - 1) (task - 1) new no_release ne
+    release_other zero ne = refl
+    release_other (suc i) ne =
+        let o = known.0 in
+        numbered_or_place after (suc i) no_release (omega arith)
+        ∙ get_or-set_other releases (job.task - 1) (suc i - 1) new no_release (λ e. ne (omega arith))
+        ∙ sym (numbered_or_place releases (suc i) no_release (omega arith))
 
     grows : (x : Entry) → Contains entries x → x.number ≤ (release_of after x.task).number
     unfolding new
@@ -203,7 +213,7 @@ module _ (tasks : List Task) (entries : List Entry) (now : ℕ) (releases : List
         let m : (release_of releases x.task).number ≡ (release_of releases job.task).number = ap (λ (y : ℕ). (release_of releases y).number) e in
         omega arith)
         (λ (ne : x.task ≡ job.task → ⊥).
-        let r = release_other x.task (λ e. ne (omega arith)) in
+        let r = release_other x.task ne in
         let n : (release_of after x.task).number ≡ (release_of releases x.task).number = ap (λ (y : LastJob). y.number) r in
         omega arith)
         (cases_eq x.task job.task)
@@ -212,16 +222,16 @@ module _ (tasks : List Task) (entries : List Entry) (now : ℕ) (releases : List
     unfolding new
     past_after task =
         ⊎_elim
-        (λ (e : task - 1 ≡ job.task - 1).
-        let r : release_of after task ≡ new = ap (λ (n : ℕ). get_or after n no_release) e ∙ release_same in
+        (λ (e : task ≡ job.task).
+        let r : release_of after task ≡ new = ap (release_of after) e ∙ release_same in
         let n : (release_of after task).arrival ≡ now = ap (λ (y : LastJob). y.arrival) r in
         omega arith)
-        (λ (ne : task - 1 ≡ job.task - 1 → ⊥).
+        (λ (ne : task ≡ job.task → ⊥).
         let r = release_other task ne in
         let n : (release_of after task).arrival ≡ (release_of releases task).arrival = ap (λ (y : LastJob). y.arrival) r in
         let p = sound.past task in
         omega arith)
-        (cases_eq (task - 1) (job.task - 1))
+        (cases_eq task job.task)
 
     new_one : (a : Entry) → Contains entries a → job_in a ≡ job → ⊥
     new_one a has same =
@@ -297,12 +307,16 @@ module _ (tasks : List Task) (entries : List Entry) (now : ℕ) (releases : List
     }
 
 -- no task had a release
-pub none_released : (n i : ℕ) → get_or (replicate n no_release) i no_release ≡ no_release
-none_released n i =
+none_at : (n i : ℕ) → get_or (replicate n no_release) i no_release ≡ no_release
+none_at n i =
     ⊎_elim
     (λ (l : i < n). get_or-replicate n i no_release no_release l)
     (λ (g : n ≤ i). get_or_past (replicate n no_release) i no_release (let l = length-replicate n no_release in omega arith))
     (cases_lt i n)
+
+pub none_released : (n task : ℕ) → release_of (replicate n no_release) task ≡ no_release
+none_released n zero = refl
+none_released n (suc i) = numbered_or_place (replicate n no_release) (suc i) no_release (omega arith) ∙ none_at n (suc i - 1)
 
 -- at the start
 pub sound_start : (tasks : List Task) → IsTaskSet tasks → IsSound tasks [] 0 (replicate (length tasks) no_release)
@@ -312,7 +326,7 @@ sound_start tasks set' = record {
   clock = omega arith;
   known = λ x has. absurd (let b = has.1 in omega arith);
   released = λ x has. absurd (let b = has.1 in omega arith);
-  past = λ task. let e = none_released (length tasks) (task - 1) in let z : (release_of (replicate (length tasks) no_release) task).arrival ≡ 0 = ap (λ (y : LastJob). y.arrival) e in omega arith;
+  past = λ task. let e = none_released (length tasks) task in let z : (release_of (replicate (length tasks) no_release) task).arrival ≡ 0 = ap (λ (y : LastJob). y.arrival) e in omega arith;
   one = λ a b ha hb same. absurd (let l = ha.1 in omega arith);
   held = λ a b ha hb begun not some same. absurd (let l = ha.1 in omega arith);
   near = λ a has begun floor e. absurd (let l = has.1 in omega arith);

@@ -1,7 +1,8 @@
 -- An executive and its body go on to stand for a plan and a log.
-use Rattle.std.proofs.Common.{◌≡◌, ℕ, suc, ◌+◌, ◌-◌, ◌<◌, ◌≤◌, Bool, List, [], ◌∷◌, ◌++◌, length, get_or, set, Option, Some, None, refl, sym, ap, ap₂, subst, ◌∙◌, inl, inr, ⊎_elim, arith, length-append, get_or-set_same, get_or-set_other}
+use Rattle.std.proofs.Common.{◌≡◌, ℕ, suc, ◌+◌, ◌-◌, ◌<◌, ◌≤◌, Bool, List, [], ◌∷◌, ◌++◌, length, set, Option, Some, None, refl, sym, ap, ap₂, subst, ◌∙◌, inl, inr, ⊎_elim, arith, length-append, get_or-set_same, get_or-set_other}
 use Rattle.std.proofs.lemmas.Bool.{cases_eq}
 use Rattle.std.specs.List.{Contains}
+use Rattle.yt_list.proofs.Lemmas.{numbered_or_place}
 use Rattle.yt_set.specs.declared.task.Task.{Task}
 use Rattle.yt_log.specs.declared.job.Job.{Job}
 use Rattle.yt_log.specs.declared.plan.PlanItem.{PlanItem}
@@ -388,11 +389,14 @@ module _ (old : Moment) (left : Job → ℕ) (plan : List PlanItem) (log : Ticks
         ap (λ (rs : List LastJob). release_of rs task) releases ∙
         ⊎_elim
         (λ (e : job.task ≡ task).
-        ap (λ (n : ℕ). get_or (set old.releases (job.task - 1) r) (n - 1) no_release) (sym e)
+        ap (release_of (set old.releases (job.task - 1) r)) (sym e)
+        ∙ numbered_or_place (set old.releases (job.task - 1) r) job.task no_release o
         ∙ get_or-set_same old.releases (job.task - 1) r no_release (omega arith)
         ∙ sym (push_yes no_release task plan (item_at old.clock job cost) e))
         (λ (ne : job.task ≡ task → ⊥).
-        get_or-set_other old.releases (job.task - 1) (task - 1) r no_release (λ q. ne (omega arith))
+        numbered_or_place (set old.releases (job.task - 1) r) task no_release a
+        ∙ get_or-set_other old.releases (job.task - 1) (task - 1) r no_release (λ q. ne (omega arith))
+        ∙ sym (numbered_or_place old.releases task no_release a)
         ∙ stands.releases task a b
         ∙ sym (push_no no_release task plan (item_at old.clock job cost) ne))
         (cases_eq job.task task)

@@ -1,5 +1,8 @@
+-- What the handlers of jobs do in their ticks.
 pub mod Bodies
-pub mod Counting
-pub mod Limits
+-- An executive at a moment.
 pub mod Moments
+-- When an executive and a body stand for a plan and a log.
 pub mod StandsFor
+-- How plays go.
+pub mod Inside

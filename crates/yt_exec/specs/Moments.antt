@@ -1,6 +1,7 @@
 -- An executive at a moment: what it knows, and what stays true of it.
-use Rattle.std.specs.Prelude.{◌≡◌, ℕ, ◌+◌, ◌-◌, ◌<◌, ◌≤◌, ◌^◌, true, false, List, [], length, Some, slice_index_or, replicate, if◌then◌else◌}
+use Rattle.std.specs.Prelude.{◌≡◌, ℕ, ◌+◌, ◌<◌, ◌≤◌, ◌^◌, true, false, List, [], length, Some, replicate, if◌then◌else◌}
 use Rattle.std.specs.List.{Contains}
+use Rattle.yt_list.specs.Numbered.{numbered_or}
 use Rattle.yt_set.specs.declared.task.Task.{Task}
 use Rattle.yt_set.specs.Tasks.{IsTaskSet, floor_of, within}
 use Rattle.yt_log.specs.declared.job.Job.{Job}
@@ -24,7 +25,7 @@ no_release = record { number = 0; arrival = 0 }
 
 -- the last release of a task
 abbrev pub release_of : List LastJob → ℕ → LastJob
-release_of releases task = slice_index_or releases (task - 1) no_release
+release_of releases task = numbered_or releases task no_release
 
 -- an executive of a set, with room for so many jobs, before anything happened
 abbrev pub start : List Task → ℕ → Moment
@@ -48,12 +49,12 @@ abbrev pub released : List Task → ℕ → Job → Entry
 released tasks now job =
     record { deadline = now + within (task_in tasks job); begun = false; arrival = now; task = job.task; number = job.number }
 
--- an entry after its job was given tick t: where it began there, its deadline is lowered by the floor of its resource
+-- an entry after its job was given tick t: where it began there, its deadline is lowered by the deadline floor of its resource
 abbrev pub after_tick : List Task → ℕ → Entry → Entry
 after_tick tasks t entry =
     record entry { deadline = if entry.begun then entry.deadline else lowered entry.deadline t (floor_of tasks (resource_in tasks entry)); begun = true }
 
--- what stays true of an executive: each job is known and was released; no two entries are of one job; a begun job comes before those that wait for its resource, since its deadline is no later than theirs, nor than the floor from now on
+-- what stays true of an executive: each job is known and was released; no two entries are of one job; a begun job comes before those that wait for its resource, since its deadline is no later than theirs, nor than the deadline floor from now on
 pub record IsSound (tasks : List Task) (entries : List Entry) (now : ℕ) (releases : List LastJob) : Type 0 where
   pub set : IsTaskSet tasks
   pub long : length releases ≡ length tasks

@@ -6,14 +6,13 @@ ghost use Rattle.yt_log.specs.declared.plan.PlanItem.{PlanItem};
 ghost use Rattle.yt_log.specs.Tasks.{Has};
 ghost use Rattle.yt_log.specs.Plan.{IsLegal};
 ghost use Rattle.yt_exec.specs.Bodies.{Begins, IsFree, IsKnown, MayStillBegin, Steps};
-ghost use Rattle.yt_exec.specs.Counting.{cost_at, count_at, IsThere, left_at, Leaves, MayBegin, no_count};
+ghost use Rattle.yt_exec.specs.Inside.Counting.{cost_at, count_at, IsThere, left_at, Leaves, MayBegin, no_count};
 
 use crate::body::{Body, Turn};
-use crate::executive::tasks_of;
 use std::alloc::{AllocError, Global};
 use std::marker::Model;
 use yt_log::{Job, Plan};
-use yt_set::{Task, TaskSet};
+use yt_set::TaskSet;
 
 /// What a job costs, and how many ticks of it are left; none before it begins.
 #[derive(Clone, Copy, Debug)]
@@ -73,32 +72,31 @@ impl Row {
 
 /// A body whose jobs cost what a plan says and do nothing.
 #[derive(Drop)]
-pub(crate) struct Counts {
-    tasks: Vec<Task>,
+pub(crate) struct Counts<'a> {
+    set: &'a TaskSet,
     /// By the tasks' numbers; number 0 stands for none.
     rows: Vec<Row>,
 }
 
-impl Counts {
+impl<'a> Counts<'a> {
     /// The counts of a legal plan's jobs, none of which has begun. All memory is taken here; `Err` comes where it ran out.
-    pub(crate) fn of(alloc: Global, set: &TaskSet, plan: &Plan) -> Result<Self, AllocError>
+    pub(crate) fn of(alloc: Global, set: &'a TaskSet, plan: &Plan) -> Result<Self, AllocError>
         requires { IsLegal set.now plan.now }
-        ensures tasks { IfOk result (λ counts. counts.tasks.items ≡ set.now) }
+        ensures set { IfOk result (λ counts. counts.set.now ≡ set.now) }
         ensures told { IfOk result (λ counts. (item : PlanItem) → Has plan.now item → cost_at counts.rows.items item.job ≡ item.cost) }
         ensures idle { IfOk result (λ counts. (job : Job) → left_at counts.rows.items job ≡ 0) }
     {
-        let tasks = tasks_of(alloc, set)?;
-        let rows = rows_of(alloc, &tasks, plan)?;
-        Ok(Counts { tasks, rows })
+        let rows = rows_of(alloc, set, plan)?;
+        Ok(Counts { set, rows })
     }
 }
 
-impl Body for Counts {
-    ghost tasks = { λ c. c.tasks.items };
+impl<'a> Body for Counts<'a> {
+    ghost tasks = { λ c. c.set.now };
 
     ghost left = { λ c. left_at c.rows.items };
 
-    ghost may_begin = { λ c. MayBegin c.tasks.items c.rows.items };
+    ghost may_begin = { λ c. MayBegin c.set.now c.rows.items };
 
     ghost begins = { λ c job d. Leaves c.rows.items d.rows.items job (cost_at c.rows.items job) };
 
@@ -134,12 +132,12 @@ fn put_left(rows: &mut [Row], job: Job, left: u64)
 }
 
 /// The rows of the jobs of a legal plan.
-fn rows_of(alloc: Global, tasks: &[Task], plan: &Plan) -> Result<Vec<Row>, AllocError>
-    requires legal { IsLegal tasks.now plan.now }
+fn rows_of(alloc: Global, set: &TaskSet, plan: &Plan) -> Result<Vec<Row>, AllocError>
+    requires legal { IsLegal set.now plan.now }
     ensures told { IfOk result (λ rows. (item : PlanItem) → Has plan.now item → cost_at rows.items item.job ≡ item.cost) }
     ensures idle { IfOk result (λ rows. (job : Job) → left_at rows.items job ≡ 0) }
 {
-    let mut rows = empty_rows(alloc, tasks.len())?;
+    let mut rows = empty_rows(alloc, set.len())?;
     for item in plan.items() {
         rows[item.job.task as usize].push(item.cost)?;
     }
@@ -147,7 +145,7 @@ fn rows_of(alloc: Global, tasks: &[Task], plan: &Plan) -> Result<Vec<Row>, Alloc
 }
 
 /// Rows of no jobs, for so many tasks.
-fn empty_rows(alloc: Global, tasks: usize) -> Result<Vec<Row>, AllocError>
+fn empty_rows(alloc: Global, tasks: u32) -> Result<Vec<Row>, AllocError>
     ensures { IfOk result (λ rows. rows.items ≡ replicate (tasks + 1) (no_count ∷ [])) }
 {
     let mut rows = Vec::new(alloc);

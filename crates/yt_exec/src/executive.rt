@@ -105,7 +105,7 @@ impl Executive {
         ensures stands { GoesOnWith self.old self.new job }
     {
         let place = job.task as usize - 1;
-        let deadline = self.clock + self.tasks[place].period;
+        let deadline = self.tasks[place].deadline(self.clock);
         self.releases[place] = LastJob {
             number: job.number,
             arrival: self.clock,
@@ -119,7 +119,7 @@ impl Executive {
         });
     }
 
-    /// Gives the next tick to the waiting job that comes first: by its deadline, which is lowered by the floor of its resource once
+    /// Gives the next tick to the waiting job that comes first: by its deadline, which is lowered by the deadline floor of its resource once
     /// it has begun; begun before not begun; the arrival; the task; the number. The caller shows that fewer than 2^63 ticks went by,
     /// and that the body is the executive's. Takes constant time while the same job goes on.
     pub fn tick<B: Body>(&mut self, body: &mut B) -> Ticked
@@ -158,7 +158,7 @@ fn job_of(entry: Entry) -> Job
     }
 }
 
-/// An entry after its job was given a tick, by the floor of its resource.
+/// An entry after its job was given a tick, by the deadline floor of its resource.
 #[tactic(auto, unfolding(yt_log::specs::EdfDdm::lowered))]
 fn after_tick(entry: Entry, tick: u64, floor: Option<u64>) -> Entry
     requires clock { tick < 2 ^ 63 }
@@ -196,7 +196,7 @@ fn give_tick<B: Body>(body: &mut B, job: Job, begun: bool) -> Turn
 }
 
 /// The tasks of a set.
-pub(crate) fn tasks_of(alloc: Global, set: &TaskSet) -> Result<Vec<Task>, AllocError>
+fn tasks_of(alloc: Global, set: &TaskSet) -> Result<Vec<Task>, AllocError>
     ensures tasks { IfOk result (λ tasks. tasks.items ≡ set.now) }
     ensures set { IsTaskSet set.now }
 {
@@ -208,7 +208,7 @@ pub(crate) fn tasks_of(alloc: Global, set: &TaskSet) -> Result<Vec<Task>, AllocE
     Ok(tasks)
 }
 
-/// Of each task of a set, the floor of its resource.
+/// Of each task of a set, the deadline floor of its resource.
 fn floors_of(alloc: Global, set: &TaskSet, tasks: &[Task]) -> Result<Vec<Option<u64>>, AllocError>
     ensures { IfOk result (λ floors. floors.items ≡ map (λ task. floor_of set.now task.resource) tasks.now) }
 {

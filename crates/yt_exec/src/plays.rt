@@ -1,11 +1,11 @@
 //! Plays of whole plans.
 ghost use Rattle.std.specs.Prelude.{◌≡◌, ℕ, ◌+◌, ◌-◌, ◌<◌, ◌≤◌, ◌^◌, List, length, slice_get, Some, IfOk, OnOk};
 ghost use Rattle.yt_log.specs.declared.plan.PlanItem.{PlanItem};
+ghost use Rattle.yt_log.specs.Limits.{most_deadline};
 ghost use Rattle.yt_log.specs.Plan.{IsLegal};
 ghost use Rattle.yt_log.specs.EdfDdm.{edf_ddm};
 ghost use Rattle.yt_log.specs.Laws.{IsSafe};
-ghost use Rattle.yt_exec.specs.Limits.{most_played};
-ghost use Rattle.yt_exec.specs.Counting.{IsPlaying};
+ghost use Rattle.yt_exec.specs.Inside.Counting.{IsPlaying};
 ghost use Rattle.yt_exec.specs.StandsFor.{job_run};
 
 use crate::counts::Counts;
@@ -16,19 +16,19 @@ use yt_set::TaskSet;
 
 /// A play as far as it has come: the items before place `next` are released.
 #[derive(Drop)]
-struct Playing {
+struct Playing<'a> {
     executive: Executive,
-    counts: Counts,
+    counts: Counts<'a>,
     log: Log,
     next: usize,
 }
 
-impl Playing {
+impl<'a> Playing<'a> {
     /// A play before its first tick. `Err` comes where memory ran out.
-    fn new(alloc: Global, set: &TaskSet, plan: &Plan) -> Result<Self, AllocError>
+    fn new(alloc: Global, set: &'a TaskSet, plan: &Plan) -> Result<Self, AllocError>
         requires { IsLegal set.now plan.now }
         ensures playing { IfOk result (λ p. IsPlaying set.now plan.now p.executive p.counts.rows.items p.next p.log) }
-        ensures tasks { IfOk result (λ p. p.counts.tasks.items ≡ set.now) }
+        ensures set { IfOk result (λ p. p.counts.set.now ≡ set.now) }
         ensures empty { IfOk result (λ p. length p.log ≡ 0) }
     {
         let counts = Counts::of(alloc, set, plan)?;
@@ -43,11 +43,11 @@ impl Playing {
 
     /// Releases the next item, where it has arrived; else gives a tick. `Err` comes where memory ran out.
     fn advance(&mut self, plan: &Plan) -> Result<(), AllocError>
-        requires legal { IsLegal self.old.counts.tasks.items plan.now }
-        requires playing { IsPlaying self.old.counts.tasks.items plan.now self.old.executive self.old.counts.rows.items self.old.next self.old.log }
+        requires legal { IsLegal self.old.counts.set.now plan.now }
+        requires playing { IsPlaying self.old.counts.set.now plan.now self.old.executive self.old.counts.rows.items self.old.next self.old.log }
         requires clock { length self.old.log < 2 ^ 62 }
-        ensures playing { OnOk result (IsPlaying self.old.counts.tasks.items plan.now self.new.executive self.new.counts.rows.items self.new.next self.new.log) }
-        ensures tasks { self.new.counts.tasks.items ≡ self.old.counts.tasks.items }
+        ensures playing { OnOk result (IsPlaying self.old.counts.set.now plan.now self.new.executive self.new.counts.rows.items self.new.next self.new.log) }
+        ensures set { self.new.counts.set.now ≡ self.old.counts.set.now }
         ensures longer { OnOk result (length self.new.log + self.new.next ≡ length self.old.log + self.old.next + 1) }
         ensures tick { OnOk result (length self.new.log ≤ length self.old.log + 1) }
     {
@@ -79,7 +79,7 @@ fn job_of(ticked: Ticked) -> Option<Job>
 /// comparisons as the waiting jobs can be halved and a move of those that come before it. `Err` comes where memory ran out.
 pub fn play(alloc: Global, set: &TaskSet, plan: &Plan, upto: u64) -> Result<Log, AllocError>
     requires legal { IsLegal set.now plan.now }
-    requires upto { upto ≤ most_played }
+    requires upto { upto ≤ most_deadline }
     ensures rule { IfOk result (λ log. log ≡ edf_ddm set.now plan.now upto) }
     ensures safe { IfOk result (λ log. IsSafe set.now plan.now log) }
 {

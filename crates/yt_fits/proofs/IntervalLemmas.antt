@@ -1,15 +1,14 @@
 -- Where jobs that keep their resources leave room for others.
-use Rattle.std.proofs.Common.{◌≡◌, ℕ, ◌+◌, ◌-◌, ◌*◌, ◌/◌, ◌<◌, ◌≤◌, Bool, true, false, cond, eqb, eq-eqb, min, List, [], ◌∷◌, map, take, slice_get, slice_index_or, Option, Some, None, refl, sym, ap, subst, ◌∙◌, ⊎_elim, arith}
+use Rattle.std.proofs.Common.{◌≡◌, ℕ, ◌+◌, ◌-◌, ◌*◌, ◌<◌, ◌≤◌, Bool, true, false, cond, eqb, eq-eqb, min, List, [], ◌∷◌, map, take, slice_get, slice_index_or, Option, Some, None, refl, sym, ap, subst, ◌∙◌, ⊎_elim, arith}
 use Rattle.std.specs.Prelude.{IsSomeAnd}
 use Rattle.std.proofs.lemmas.Bool.{cases_eq, cases_lt}
 use Rattle.std.proofs.lemmas.List.Elements.{All-append, All-filter, All-map}
 use Rattle.std.proofs.lemmas.List.Sums.{sum_by_more, sum_by-cons}
 use Rattle.std.proofs.lemmas.Option.{get_or_from_slice_get, slice_get_within}
-use Rattle.std.proofs.Math.Nat.{div-eq_of_lt, div-eq_of_lt-le, div-mul-le_self}
 use Rattle.std.specs.List.{All, fold, reduce, sum_by}
 use Rattle.yt_set.specs.declared.task.Task.{Task}
-use Rattle.yt_set.specs.Tasks.{FitsInterval, LacksRoom, LeavesRoom, need_of, demand_bound, floor_of, jobs_due, users_of, within}
-use Rattle.yt_set.proofs.Lemmas.{HavePeriods, all_first, all_one, all_rest}
+use Rattle.yt_set.specs.Tasks.{FitsInterval, LacksRoom, LeavesRoom, demand_bound, floor_of, jobs_due, users_of, within}
+use Rattle.yt_set.proofs.Lemmas.{AreDueInPeriods, IsDueInPeriod, all_first, all_one, all_rest, none_due, same_jobs_due}
 use Rattle.yt_fits.specs.declared.interval.Breach.{Breach}
 use Rattle.yt_fits.specs.Intervals.{HaveRoom, IsLowestBreach}
 use Rattle.yt_fits.proofs.MultipleLemmas.{take_next}
@@ -40,7 +39,7 @@ floor_keeps P tasks r floor all e = by (eqb r 0) e
     by false q = reduce_keeps P (map within (users_of tasks r)) floor (All-map P within (users_of tasks r) (All-filter (λ t. eqb t.resource r) (λ t. P (within t)) tasks all)) q
 
 -- the demand with one more task
-pub demand_next : (tasks : List Task) (n t : ℕ) (task : Task) → slice_get tasks n ≡ Some task → demand_bound (take (n + 1) tasks) t ≡ demand_bound (take n tasks) t + t / task.period * task.cost
+pub demand_next : (tasks : List Task) (n t : ℕ) (task : Task) → slice_get tasks n ≡ Some task → demand_bound (take (n + 1) tasks) t ≡ demand_bound (take n tasks) t + jobs_due task t * task.cost
 demand_next tasks n t task at =
     sum_by_more (λ (x : Task). jobs_due x t * x.cost) tasks n task (slice_get_within tasks n task at)
     ∙ ap (λ (x : Task). demand_bound (take n tasks) t + jobs_due x t * x.cost) (get_or_from_slice_get tasks n task task at)
@@ -52,59 +51,52 @@ same_sum f g (x ∷ xs) all =
     let rest = same_sum f g xs (all_rest (λ y. f y ≡ g y) x xs all) in
     sum_by-cons f x xs ∙ ap (λ n. n + sum_by f xs) here ∙ ap (λ n. g x + n) rest ∙ sym (sum_by-cons g x xs)
 
--- up to the next point, which is no multiple of a period behind the first one
+-- up to the next point, which comes no later than a job more of any task can be due
 abbrev pub IsBeforeNext : List Task → ℕ → ℕ → Type 0
-IsBeforeNext tasks point next = All (λ task. next ≤ (point / task.period + 1) * task.period) tasks
-
-same_jobs : (p point next t : ℕ) → 1 ≤ p → next ≤ (point / p + 1) * p → point ≤ t → t < next → t / p ≡ point / p
-same_jobs p point next t pos h from to =
-    let low = div-mul-le_self point p in
-    let least : point / p * p ≤ t = omega arith in
-    let most : t < (point / p + 1) * p = omega arith in
-    div-eq_of_lt-le p least most
+IsBeforeNext tasks point next = All (λ task. next ≤ jobs_due task point * task.period + within task) tasks
 
 -- the demand stays the same
-same_demand : (tasks : List Task) (point next t : ℕ) → HavePeriods tasks → IsBeforeNext tasks point next → point ≤ t → t < next → demand_bound tasks t ≡ demand_bound tasks point
-same_demand tasks point next t periods before from to =
+same_demand : (tasks : List Task) (point next t : ℕ) → AreDueInPeriods tasks → IsBeforeNext tasks point next → point ≤ t → t < next → demand_bound tasks t ≡ demand_bound tasks point
+same_demand tasks point next t due before from to =
     same_sum (λ (x : Task). jobs_due x t * x.cost) (λ (x : Task). jobs_due x point * x.cost) tasks
-    (λ k d lt. let x = slice_index_or tasks k d in ap (λ n. n * x.cost) (same_jobs x.period point next t (periods k d lt) (before k d lt) from to))
+    (λ k d lt. let x = slice_index_or tasks k d in ap (λ n. n * x.cost) (same_jobs_due x point next t (due k d lt) (before k d lt) from to))
 
-behind_point : (p point next : ℕ) → 1 ≤ p → next ≤ (point / p + 1) * p → p < next → p ≤ point
-behind_point p point next pos h less =
+behind_point : (task : Task) (point next : ℕ) → IsDueInPeriod task → next ≤ jobs_due task point * task.period + within task → within task < next → within task ≤ point
+behind_point task point next is h less =
     ⊎_elim
-    (λ (short : point < p). let none : point / p ≡ 0 = div-eq_of_lt short in let one : (point / p + 1) * p ≡ p = ap (λ n. (n + 1) * p) none ∙ (omega arith) in absurd (omega arith))
-    (λ (long : p ≤ point). long)
-    (cases_lt point p)
+    (λ (short : point < within task). let one : jobs_due task point * task.period ≡ 0 = ap (λ n. n * task.period) (none_due task point is short) ∙ (omega arith) in absurd (omega arith))
+    (λ (long : within task ≤ point). long)
+    (cases_lt point (within task))
 
 -- no floor lies between
-floor_behind : (tasks : List Task) (point next r floor : ℕ) → HavePeriods tasks → IsBeforeNext tasks point next → floor_of tasks r ≡ Some floor → floor < next → floor ≤ point
-floor_behind tasks point next r floor periods before is less =
+floor_behind : (tasks : List Task) (point next r floor : ℕ) → AreDueInPeriods tasks → IsBeforeNext tasks point next → floor_of tasks r ≡ Some floor → floor < next → floor ≤ point
+floor_behind tasks point next r floor due before is less =
     floor_keeps (λ n. n < next → n ≤ point) tasks r floor
-    (λ k d lt. let x = slice_index_or tasks k d in behind_point x.period point next (periods k d lt) (before k d lt)) is less
+    (λ k d lt. let x = slice_index_or tasks k d in behind_point x point next (due k d lt) (before k d lt)) is less
 
 some_and : (o : Option ℕ) (P Q : ℕ → Type 0) → ((n : ℕ) → o ≡ Some n → P n → Q n) → IsSomeAnd o P → IsSomeAnd o Q
 some_and None P Q f h = absurd h
 some_and (Some n) P Q f h = f n refl h
 
 -- a task that lacks room in a span up to the next point lacks it in one a tick longer than the first
-shorter : (tasks : List Task) (point next span : ℕ) (task : Task) → HavePeriods tasks → IsBeforeNext tasks point next → point + 2 ≤ span → span ≤ next → LacksRoom tasks span task → LacksRoom tasks (point + 1) task
-shorter tasks point next span task periods before from to lacks =
-    let same = same_demand tasks point next (span - 1) periods before (omega arith) (omega arith) in
+shorter : (tasks : List Task) (point next span : ℕ) (task : Task) → AreDueInPeriods tasks → IsBeforeNext tasks point next → point + 2 ≤ span → span ≤ next → LacksRoom tasks span task → LacksRoom tasks (point + 1) task
+shorter tasks point next span task due before from to lacks =
+    let same = same_demand tasks point next (span - 1) due before (omega arith) (omega arith) in
     let here : demand_bound tasks (point + 1 - 1) ≡ demand_bound tasks point = ap (demand_bound tasks) (omega arith) in
     let below = lacks.1 in
     let over = lacks.2 in (
       some_and (floor_of tasks task.resource) (λ n. n < span) (λ n. n < point + 1)
-          (λ n is less. let behind = floor_behind tasks point next task.resource n periods before is (omega arith) in omega arith) lacks.0,
+          (λ n is less. let behind = floor_behind tasks point next task.resource n due before is (omega arith) in omega arith) lacks.0,
       omega arith,
       omega arith,
     )
 
 -- so where none lacks room up to there, none does up to the next point
-pub room_between : (tasks : List Task) (point next : ℕ) → HavePeriods tasks → IsBeforeNext tasks point next → ((span : ℕ) → span ≤ point + 1 → HaveRoom tasks span tasks) → (span : ℕ) → span ≤ next → HaveRoom tasks span tasks
-room_between tasks point next periods before rooms span h =
+pub room_between : (tasks : List Task) (point next : ℕ) → AreDueInPeriods tasks → IsBeforeNext tasks point next → ((span : ℕ) → span ≤ point + 1 → HaveRoom tasks span tasks) → (span : ℕ) → span ≤ next → HaveRoom tasks span tasks
+room_between tasks point next due before rooms span h =
     ⊎_elim
     (λ (short : span < point + 2). rooms span (omega arith))
-    (λ (long : point + 2 ≤ span). λ k d lt lacks. rooms (point + 1) (omega arith) k d lt (shorter tasks point next span (slice_index_or tasks k d) periods before long h lacks))
+    (λ (long : point + 2 ≤ span). λ k d lt lacks. rooms (point + 1) (omega arith) k d lt (shorter tasks point next span (slice_index_or tasks k d) due before long h lacks))
     (cases_lt span (point + 2))
 
 -- one more span
@@ -131,15 +123,15 @@ has_resource tasks span task lacks =
     (λ (ne : task.resource ≡ 0 → ⊥). omega arith)
     (cases_eq task.resource 0)
 
--- in spans as long as the longest period none lacks room
-pub room_beyond : (tasks : List Task) (longest point : ℕ) → All (λ task. 1 ≤ task.resource → task.period ≤ longest) tasks → longest ≤ point + 1 → ((span : ℕ) → span ≤ point → HaveRoom tasks span tasks) → (span : ℕ) → HaveRoom tasks span tasks
+-- in spans as long as the longest time to a deadline none lacks room
+pub room_beyond : (tasks : List Task) (longest point : ℕ) → All (λ task. 1 ≤ task.resource → within task ≤ longest) tasks → longest ≤ point + 1 → ((span : ℕ) → span ≤ point → HaveRoom tasks span tasks) → (span : ℕ) → HaveRoom tasks span tasks
 room_beyond tasks longest point all end before span =
     ⊎_elim
     (λ (long : point < span).
     λ k d lt lacks.
     let task = slice_index_or tasks k d in
     let short = all k d lt (has_resource tasks span task lacks) in
-    let below : span < task.period = lacks.1 in
+    let below : span < within task = lacks.1 in
     omega arith)
     (λ (short : span ≤ point). before span short)
     (cases_lt point span)

@@ -7,7 +7,7 @@ use Rattle.std.proofs.lemmas.Option.{get_or_from_slice_get, slice_get_within}
 use Rattle.std.proofs.Math.Nat.{one-dvd, eq-zero_of_zero-dvd}
 use Rattle.std.proofs.Math.Seq.{take-suc}
 use Rattle.std.specs.Int.{◌∣◌}
-use Rattle.yt_fits.specs.Loads.{most_multiple}
+use Rattle.yt_fits.specs.Loads.{hyperperiod_limit}
 use Rattle.yt_set.specs.declared.task.Task.{Task}
 use Rattle.yt_set.specs.Tasks.{IsTaskSet, lcm, hyperperiod}
 use Rattle.yt_set.proofs.Lemmas.{least_from, multiple_more, periods_of}
@@ -42,11 +42,11 @@ next_whole tasks n m h task at e is =
     is ∙ ap (λ k. lcm k task.period) e ∙ sym (multiple_next tasks n task (ap (slice_get tasks) here ∙ at))
 
 -- a multiple that is not too great, after others that are not
-pub narrow_more : (tasks : List Task) (n : ℕ) → ((k : ℕ) → k ≤ n → hyperperiod (take k tasks) ≤ most_multiple) → hyperperiod (take (n + 1) tasks) ≤ most_multiple
-    → (k : ℕ) → k ≤ n + 1 → hyperperiod (take k tasks) ≤ most_multiple
+pub narrow_more : (tasks : List Task) (n : ℕ) → ((k : ℕ) → k ≤ n → hyperperiod (take k tasks) ≤ hyperperiod_limit tasks) → hyperperiod (take (n + 1) tasks) ≤ hyperperiod_limit tasks
+    → (k : ℕ) → k ≤ n + 1 → hyperperiod (take k tasks) ≤ hyperperiod_limit tasks
 narrow_more tasks n before here k h =
     ⊎_elim
-    (λ (e : k ≡ n + 1). subst (λ j. hyperperiod (take j tasks) ≤ most_multiple) (sym e) here)
+    (λ (e : k ≡ n + 1). subst (λ j. hyperperiod (take j tasks) ≤ hyperperiod_limit tasks) (sym e) here)
     (λ (ne : k ≡ n + 1 → ⊥). before k (omega arith))
     (cases_eq k (n + 1))
 

@@ -1,4 +1,4 @@
-pub mod Intervals
 pub mod Loads
+pub mod Intervals
 pub mod Unfits
 pub mod Worked

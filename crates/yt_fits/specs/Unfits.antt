@@ -5,17 +5,17 @@ use Rattle.yt_set.specs.Tasks.{Fits, FitsLoad, hyperperiod}
 use Rattle.yt_fits.specs.declared.unfit.Unfit.{Unfit}
 use Rattle.yt_fits.specs.declared.unfit.Unfit.TheVariants.{Hyperperiod, Overload, Interval}
 use Rattle.yt_fits.specs.Intervals.{IsFirstBreach}
-use Rattle.yt_fits.specs.Loads.{IsFirstWide, load_sum, most_multiple}
+use Rattle.yt_fits.specs.Loads.{IsFirstWide, hyperperiod_limit, load_sum}
 
 -- the reason is the set's: its hyperperiod is too great, from that task on; else its load doesn't fit, being that sum; else this is the first span in which a task lacks room
 abbrev pub IsReason : List Task → Unfit → Type 0
-IsReason tasks (Hyperperiod task) = IsFirstWide tasks task × (most_multiple < hyperperiod tasks)
-IsReason tasks (Overload sum) = (sum ≡ load_sum tasks) × (hyperperiod tasks ≤ most_multiple) × (FitsLoad tasks → ⊥)
-IsReason tasks (Interval breach) = IsFirstBreach tasks breach × (hyperperiod tasks ≤ most_multiple) × FitsLoad tasks
+IsReason tasks (Hyperperiod task) = IsFirstWide tasks task × (hyperperiod_limit tasks < hyperperiod tasks)
+IsReason tasks (Overload sum) = (sum ≡ load_sum tasks) × (hyperperiod tasks ≤ hyperperiod_limit tasks) × (FitsLoad tasks → ⊥)
+IsReason tasks (Interval breach) = IsFirstBreach tasks breach × (hyperperiod tasks ≤ hyperperiod_limit tasks) × FitsLoad tasks
 
 -- the set doesn't fit, unless its hyperperiod is too great to tell
 abbrev pub IsUnfit : List Task → Type 0
-IsUnfit tasks = hyperperiod tasks ≤ most_multiple → Fits tasks → ⊥
+IsUnfit tasks = hyperperiod tasks ≤ hyperperiod_limit tasks → Fits tasks → ⊥
 
 -- a task that the reason names is in the set, by its number from 1
 abbrev pub NamesTaskOf : List Task → Unfit → Type 0

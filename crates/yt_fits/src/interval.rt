@@ -2,7 +2,7 @@
 ghost use Rattle.std.specs.Prelude.{◌≡◌, ◌+◌, ◌-◌, ◌*◌, ◌/◌, ◌<◌, ◌≤◌, ◌↔◌, None, IfSome, IsTrue, length};
 ghost use Rattle.std.specs.List.{All};
 ghost use Rattle.yt_set.specs.Limits.{most_tasks, most_ticks};
-ghost use Rattle.yt_set.specs.Tasks.{FitsInterval, LacksRoom, demand_bound};
+ghost use Rattle.yt_set.specs.Tasks.{FitsInterval, LacksRoom, demand_bound, jobs_due, within};
 ghost use Rattle.yt_fits.specs.Intervals.{HaveRoom, IsFirstBreach, IsLowestBreach};
 
 use yt_set::{Task, TaskSet};
@@ -21,7 +21,7 @@ pub struct Breach {
 /// The shortest span in which a job that keeps its resource leaves too little room for others, and the lowest task whose job
 /// does so in it. `None` comes exactly where none does. Takes no memory.
 ///
-/// What is asked for grows at multiples of periods alone, so only the spans that are a tick longer than one of these are tried.
+/// What is asked for grows where a job more can be due, so only the spans that are a tick longer than such a point are tried.
 pub fn interval_plain(set: &TaskSet) -> Option<Breach>
     ensures some { IfSome result (λ breach. IsFirstBreach set.now breach) }
     ensures none { result ≡ None ↔ FitsInterval set.now }
@@ -39,16 +39,16 @@ pub fn interval_plain(set: &TaskSet) -> Option<Breach>
     None
 }
 
-/// The longest period of a task under a resource; 0 where no task is.
+/// The longest time from an arrival to a deadline of a task under a resource; 0 where no task is.
 fn longest(set: &TaskSet) -> u64
-    ensures longest { All (λ task. 1 ≤ task.resource → task.period ≤ result) set.now }
+    ensures longest { All (λ task. 1 ≤ task.resource → within task ≤ result) set.now }
     ensures bound { result ≤ most_ticks }
 {
     let mut longest = 0;
     for n in 0..set.len() {
         let task = set.task(n + 1);
         if task.resource != 0 {
-            longest = task.period.max(longest);
+            longest = task.within().max(longest);
         }
     }
     longest
@@ -83,7 +83,7 @@ fn lacks_room(set: &TaskSet, span: u64, demand: u64, task: Task) -> bool
     requires cheap { task.cost ≤ most_ticks }
     ensures { IsTrue result ↔ LacksRoom set.now span task }
 {
-    span < task.period
+    span < task.within()
         && span < task.cost + demand
         && set.floor(task.resource).is_some_and(|floor| floor < span)
 }
@@ -104,36 +104,38 @@ fn demand(set: &TaskSet, ticks: u64) -> u64
 /// What the jobs of a task cost that can arrive and be due within so many ticks.
 fn cost_due(task: Task, ticks: u64) -> u64
     requires positive { 1 ≤ task.period }
+    requires slow { task.period ≤ most_ticks }
     requires cheap { task.cost ≤ most_ticks }
     requires short { ticks ≤ most_ticks }
-    ensures value { result ≡ ticks / task.period * task.cost }
+    ensures value { result ≡ jobs_due task ticks * task.cost }
     ensures bound { result ≤ 1000000000000 }
 {
-    ticks / task.period * task.cost
+    task.jobs_due(ticks) * task.cost
 }
 
-/// The least multiple of a period behind a tick, or the end where none comes before it.
+/// The least span that is longer than so many ticks and in which a job more of some task can be due, or the end where that comes
+/// first.
 fn next_point(set: &TaskSet, point: u64, end: u64) -> u64
     requires before { point < end }
     requires short { end ≤ most_ticks }
     ensures later { point < result }
     ensures end { result ≤ end }
-    ensures first { All (λ task. result ≤ (point / task.period + 1) * task.period) set.now }
+    ensures first { All (λ task. result ≤ jobs_due task point * task.period + within task) set.now }
 {
     let mut next = end;
     for n in 0..set.len() {
-        next = next.min(multiple_behind(set.task(n + 1).period, point));
+        next = next.min(next_due(set.task(n + 1), point));
     }
     next
 }
 
-/// The least multiple of a period behind a tick.
-fn multiple_behind(period: u64, point: u64) -> u64
-    requires positive { 1 ≤ period }
-    requires short { period ≤ most_ticks }
+/// The least span that is longer than so many ticks and in which a job more can be due.
+fn next_due(task: Task, point: u64) -> u64
+    requires positive { 1 ≤ task.period }
+    requires slow { task.period ≤ most_ticks }
     requires point { point ≤ most_ticks }
-    ensures value { result ≡ (point / period + 1) * period }
+    ensures value { result ≡ jobs_due task point * task.period + within task }
     ensures later { point < result }
 {
-    (point / period + 1) * period
+    task.jobs_due(point) * task.period + task.within()
 }

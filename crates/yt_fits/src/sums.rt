@@ -2,12 +2,12 @@
 ghost use Rattle.std.specs.Prelude.{◌≡◌, ◌*◌, ◌/◌, ◌<◌, ◌≤◌, IfOk, IfErr};
 ghost use Rattle.yt_set.specs.Limits.{most_ticks};
 ghost use Rattle.yt_set.specs.Tasks.{hyperperiod, load};
-ghost use Rattle.yt_fits.specs.Loads.{IsFirstWide, load_sum, most_multiple};
+ghost use Rattle.yt_fits.specs.Loads.{IsFirstWide, hyperperiod_limit, load_sum, most_multiple};
 
 use crate::multiple::lcm;
 use yt_set::{Task, TaskSet};
 
-/// The greatest hyperperiod that is computed with.
+/// The greatest multiple of periods that is computed with.
 const MOST_MULTIPLE: u128 = 1 << 100;
 
 /// The two sides of the load's condition, which holds where `part` is at most `whole`.
@@ -29,9 +29,9 @@ pub struct TooWide {
 /// The load of a set over its hyperperiod. It is refused exactly where the hyperperiod passes 2^100. Takes no memory.
 pub fn load(set: &TaskSet) -> Result<LoadSum, TooWide>
     ensures ok { IfOk result (λ sum. sum ≡ load_sum set.now) }
-    ensures narrow { IfOk result (λ sum. hyperperiod set.now ≤ most_multiple) }
+    ensures narrow { IfOk result (λ sum. hyperperiod set.now ≤ hyperperiod_limit set.now) }
     ensures err { IfErr result (λ wide. IsFirstWide set.now wide.task) }
-    ensures wide { IfErr result (λ wide. most_multiple < hyperperiod set.now) }
+    ensures wide { IfErr result (λ wide. hyperperiod_limit set.now < hyperperiod set.now) }
 {
     let whole = whole(set)?;
     Ok(LoadSum {
@@ -40,17 +40,25 @@ pub fn load(set: &TaskSet) -> Result<LoadSum, TooWide>
     })
 }
 
+/// The greatest hyperperiod that a set may have.
+fn hyperperiod_limit(_set: &TaskSet) -> u128
+    ensures { result ≡ hyperperiod_limit _set.now }
+{
+    MOST_MULTIPLE
+}
+
 /// The hyperperiod.
 fn whole(set: &TaskSet) -> Result<u128, TooWide>
     ensures ok { IfOk result (λ whole. whole ≡ hyperperiod set.now) }
-    ensures narrow { IfOk result (λ whole. whole ≤ most_multiple) }
+    ensures narrow { IfOk result (λ whole. whole ≤ hyperperiod_limit set.now) }
     ensures err { IfErr result (λ wide. IsFirstWide set.now wide.task) }
-    ensures wide { IfErr result (λ wide. most_multiple < hyperperiod set.now) }
+    ensures wide { IfErr result (λ wide. hyperperiod_limit set.now < hyperperiod set.now) }
 {
+    let limit = hyperperiod_limit(set);
     let mut whole = 1;
     for n in 0..set.len() {
         whole = lcm(whole, set.task(n + 1).period);
-        if whole > MOST_MULTIPLE {
+        if whole > limit {
             return Err(TooWide { task: n + 1 });
         }
     }

@@ -1,7 +1,7 @@
 //! Whether a set fits.
 ghost use Rattle.std.specs.Prelude.{◌≡◌, ◌≤◌, IfOk, IfErr};
 ghost use Rattle.yt_set.specs.Tasks.{Fits, hyperperiod};
-ghost use Rattle.yt_fits.specs.Loads.{load_sum, most_multiple};
+ghost use Rattle.yt_fits.specs.Loads.{hyperperiod_limit, load_sum};
 ghost use Rattle.yt_fits.specs.Unfits.{IsReason, IsUnfit, NamesTaskOf};
 
 use crate::interval::{Breach, interval_plain};
@@ -24,7 +24,7 @@ pub enum Unfit {
 /// for others; with the load, or why not. A reason names tasks of the set alone. Takes no memory.
 pub fn fits(set: &TaskSet) -> Result<LoadSum, Unfit>
     ensures ok { IfOk result (λ sum. sum ≡ load_sum set.now) }
-    ensures narrow { IfOk result (λ sum. hyperperiod set.now ≤ most_multiple) }
+    ensures narrow { IfOk result (λ sum. hyperperiod set.now ≤ hyperperiod_limit set.now) }
     ensures fits { IfOk result (λ sum. Fits set.now) }
     ensures err { IfErr result (λ why. IsReason set.now why) }
     ensures unfit { IfErr result (λ why. IsUnfit set.now) }

@@ -63,7 +63,8 @@ one_reason tasks (Interval breach) (Hyperperiod n) p q = absurd (not_both most_m
 one_reason tasks (Interval breach) (Overload sum) p q = absurd (q.2 p.2)
 one_reason tasks (Interval breach) (Interval more) p q = refl
 
-no_reason : (tasks : List Task) (why : Unfit) → IsReason tasks why → hyperperiod tasks ≤ most_multiple → Fits tasks → ⊥
+-- tasks that fit have no reason not to
+pub no_reason : (tasks : List Task) (why : Unfit) → IsReason tasks why → hyperperiod tasks ≤ most_multiple → Fits tasks → ⊥
 no_reason tasks (Hyperperiod n) p narrow room = not_both most_multiple (hyperperiod tasks) p.1 narrow
 no_reason tasks (Overload sum) p narrow room = p.2 room.loads
 no_reason tasks (Interval breach) p narrow room = breach_unfits tasks breach p.0.lowest room.intervals

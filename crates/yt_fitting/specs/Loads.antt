@@ -1,8 +1,7 @@
 -- Why a verdict on tasks comes: they don't fit, or they do and more is asked.
-use Rattle.std.specs.Prelude.{◌≡◌, ℕ, ◌≤◌, List, [], Some}
+use Rattle.std.specs.Prelude.{◌≡◌, ℕ, ◌≤◌, List, [], ◌++◌}
 use Rattle.yt_answer.specs.declared.verdict.Verdict.{Verdict}
-use Rattle.yt_answer.specs.declared.verdict.Verdict.TheVariants.{Graph, Overload, NotYet}
-use Rattle.yt_answer.specs.Due.{not_yet_line}
+use Rattle.yt_answer.specs.declared.verdict.Verdict.TheVariants.{Graph, Overload}
 use Rattle.yt_fits.specs.declared.unfit.Unfit.{Unfit}
 use Rattle.yt_fits.specs.declared.unfit.Unfit.TheVariants.{Hyperperiod, Overload as Overloaded, Interval}
 use Rattle.yt_fits.specs.Loads.{most_multiple}
@@ -12,27 +11,26 @@ use Rattle.yt_log.specs.Patterns.{MustMiss}
 use Rattle.yt_set.specs.declared.task.Task.{Task}
 use Rattle.yt_set.specs.Tasks.{Fits, hyperperiod}
 use Rattle.yt_witness.specs.declared.pattern.Pattern.{Pattern}
-use Rattle.yt_witness.specs.Witnesses.{horizon, pattern_of, plan_of}
-use Rattle.yt_fitting.specs.TaskText.{hyperperiod_line, overload_text}
+use Rattle.yt_witness.specs.declared.pattern.Pattern.TheVariants.{All, Blocker}
+use Rattle.yt_witness.specs.Witnesses.{horizon, plan_of}
+use Rattle.yt_fitting.specs.TaskText.{hyperperiod_line, interval_line, load_line, pattern_text}
 
--- the verdict on tasks that don't fit; what shows that they leave too little room isn't built yet
+-- the verdict on tasks that don't fit
 abbrev pub unfit_verdict : Unfit → Verdict
 unfit_verdict (Hyperperiod task) = Graph
 unfit_verdict (Overloaded sum) = Overload
-unfit_verdict (Interval breach) = NotYet
+unfit_verdict (Interval breach) = Overload
 
--- the text tells the overload of tasks with these names, by the reason: it shows arrivals of which each lawful, work-conserving and exclusive schedule misses a deadline by their horizon
-pub record IsOverload (labels : List (List ℕ)) (tasks : List Task) (why : Unfit) (text : List ℕ) : Type 0 where
-  pub pattern : Pattern
-  pub given : pattern_of why ≡ Some pattern
-  pub printed : text ≡ overload_text labels tasks pattern
+-- the text has a line that tells why tasks with these names don't fit, and shows the arrivals of a pattern, of which each lawful, work-conserving and exclusive schedule misses a deadline by their horizon
+pub record IsOverload (labels : List (List ℕ)) (tasks : List Task) (line : List ℕ) (pattern : Pattern) (text : List ℕ) : Type 0 where
+  pub printed : text ≡ line ++ pattern_text labels tasks pattern
   pub must_miss : MustMiss tasks (plan_of tasks pattern) (horizon pattern)
 
 -- the text is that of a graph or a set, as the kind says, whose tasks have these names and don't fit, by the reason
 abbrev pub IsUnfitText : List ℕ → List (List ℕ) → List Task → Unfit → List ℕ → Type 0
 IsUnfitText kind labels tasks (Hyperperiod task) text = text ≡ hyperperiod_line kind (numbered_or labels task [])
-IsUnfitText kind labels tasks (Overloaded sum) text = IsOverload labels tasks (Overloaded sum) text
-IsUnfitText kind labels tasks (Interval breach) text = text ≡ not_yet_line
+IsUnfitText kind labels tasks (Overloaded sum) text = IsOverload labels tasks (load_line sum) (All sum.whole) text
+IsUnfitText kind labels tasks (Interval breach) text = IsOverload labels tasks (interval_line (numbered_or labels breach.task []) breach) (Blocker breach.task breach.len) text
 
 -- why a verdict on tasks comes, where `Asked` says why one on tasks that fit does
 pub data LoadCause (tasks : List Task) (Asked : Type 0) : Type 0 where

@@ -1,10 +1,14 @@
--- What is printed of a task set's load, and of the arrivals that show that it doesn't fit.
+-- What is printed of a task set: its load, why it doesn't fit, and the arrivals that show it.
 use Rattle.std.specs.Prelude.{ℕ, ◌+◌, ◌==◌, List, [], ◌∷◌, ◌++◌, length, codes, if◌then◌else◌}
 use Rattle.std.specs.Fmt.{decimal}
 use Rattle.yt_list.specs.Numbered.{numbered_or}
+use Rattle.yt_fits.specs.declared.interval.Breach.{Breach}
+use Rattle.yt_fits.specs.declared.sums.LoadSum.{LoadSum}
 use Rattle.yt_log.specs.Patterns.{Arrivals}
 use Rattle.yt_set.specs.declared.task.Task.{Task}
 use Rattle.yt_set.specs.Tasks.{hyperperiod, load}
+use Rattle.yt_fitting.specs.declared.kind.Kind.{Kind}
+use Rattle.yt_fitting.specs.declared.kind.Kind.TheVariants.{Graph, Set}
 use Rattle.yt_witness.specs.declared.pattern.Pattern.{Pattern}
 use Rattle.yt_witness.specs.Witnesses.{arrivals_of, horizon}
 
@@ -34,9 +38,18 @@ arrive_lines labels number (a ∷ arrivals) = arrivals_text (numbered_or labels 
 abbrev pub pattern_text : List (List ℕ) → List Task → Pattern → List ℕ
 pattern_text labels tasks pattern = arrive_lines labels 1 (arrivals_of tasks pattern) ++ (codes "horizon " ++ (decimal (horizon pattern) ++ 10 ∷ []))
 
--- an overload: the load over the hyperperiod, and a pattern
-abbrev pub overload_text : List (List ℕ) → List Task → Pattern → List ℕ
-overload_text labels tasks pattern = codes "overload load " ++ (load_text tasks ++ (10 ∷ pattern_text labels tasks pattern))
+-- `overload load PART/WHOLE`
+abbrev pub load_line : LoadSum → List ℕ
+load_line sum = codes "overload load " ++ (decimal sum.part ++ (47 ∷ decimal sum.whole ++ 10 ∷ []))
+
+-- `overload interval TASK LEN NEED`
+abbrev pub interval_line : List ℕ → Breach → List ℕ
+interval_line label breach = codes "overload interval " ++ (label ++ (32 ∷ decimal breach.len ++ (32 ∷ decimal breach.need ++ 10 ∷ [])))
+
+-- the word with which the line of a graph or a set that is refused begins
+abbrev pub kind_word : Kind → List ℕ
+kind_word Graph = codes "graph"
+kind_word Set = codes "set"
 
 -- `graph hyperperiod PORT` or `set hyperperiod NAME`
 abbrev pub hyperperiod_line : List ℕ → List ℕ → List ℕ

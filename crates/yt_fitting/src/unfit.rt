@@ -1,23 +1,25 @@
 //! The answer to tasks that don't fit.
 ghost use Rattle.std.specs.Prelude.{◌≡◌, IfOk, length};
+ghost use Rattle.yt_answer.specs.declared.verdict.Verdict.TheVariants.{Overload};
 ghost use Rattle.yt_fits.specs.Unfits.{IsReason};
 ghost use Rattle.yt_fitting.specs.Loads.{IsUnfitText, unfit_verdict};
-ghost use Rattle.yt_fitting.specs.TaskText.{hyperperiod_line};
+ghost use Rattle.yt_fitting.specs.TaskText.{hyperperiod_line, kind_word};
 
-use crate::overload::overload_text;
+use crate::kind::Kind;
+use crate::labels::label_of;
+use crate::overload::{load_overload, room_overload};
 use std::alloc::{AllocError, Global};
-use yt_answer::{Answer, Verdict, not_yet};
+use yt_answer::{Answer, Verdict};
 use yt_base::Text;
 use yt_fits::Unfit;
 use yt_list::Name;
 use yt_set::TaskSet;
-use yt_witness::witness;
 
-/// The answer to tasks that don't fit, of a graph or a set as `kind` says, by their names and the reason; that to tasks that
-/// leave too little room isn't built yet. `Err` comes where memory ran out.
+/// The answer to tasks that don't fit, of a graph or a set as `kind` says, by their names and the reason. `Err` comes where
+/// memory ran out.
 pub fn unfit_answer(
     alloc: Global,
-    kind: &[u8],
+    kind: Kind,
     labels: &[Name],
     set: &TaskSet,
     why: &Unfit,
@@ -25,21 +27,25 @@ pub fn unfit_answer(
     requires labels { length labels.now ≡ length set.now }
     requires why { IsReason set.now why.now }
     ensures verdict { IfOk result (λ a. a.verdict ≡ unfit_verdict why.now) }
-    ensures text { IfOk result (λ a. IsUnfitText kind.now labels.now set.now why.now a.text) }
+    ensures text { IfOk result (λ a. IsUnfitText (kind_word kind) labels.now set.now why.now a.text) }
 {
     match *why {
         Unfit::Hyperperiod(task) => {
-            let label = labels[task as usize - 1].as_slice();
-            Ok(Answer::refused(hyperperiod_line(alloc, kind, label)?))
+            let label = label_of(labels, task);
+            Ok(Answer::refused(hyperperiod_line(alloc, kind.word(), label)?))
         }
-        Unfit::Overload(sum) => match witness(set, why) {
-            Some(pattern) => Ok(Answer {
-                verdict: Verdict::Overload,
-                text: overload_text(alloc, labels, set, sum, &pattern)?,
-            }),
-            None => unreachable!(),
-        },
-        Unfit::Interval(_) => not_yet(alloc),
+        Unfit::Overload(sum) => Ok(overload(load_overload(alloc, labels, set, sum)?)),
+        Unfit::Interval(breach) => Ok(overload(room_overload(alloc, labels, set, breach)?)),
+    }
+}
+
+/// The answer to tasks that don't fit, with the text that shows it.
+fn overload(text: Text) -> Answer
+    ensures { result ≡ record { verdict = Overload; text = text } }
+{
+    Answer {
+        verdict: Verdict::Overload,
+        text,
     }
 }
 

@@ -130,14 +130,14 @@ inside_layout (Some w) = space ∷ say (key keys.In) ∷ space ∷ word_piece w 
 
 -- the lines of a part of a graph
 abbrev pub item_layout : ItemTree → List Piece
-item_layout (input w width period) =
-    say (key keys.Input) ∷ space ∷ word_piece w ∷ say (mark LeftParen) ∷ number_piece width ∷ say (mark RightParen)
-    ∷ space ∷ say (key keys.Period) ∷ space ∷ number_piece period ∷ feed ∷ []
-item_layout (output w path) = say (key keys.Output) ∷ space ∷ word_piece w ∷ space ∷ say (key keys.From) ∷ space ∷ path_layout path ++ feed ∷ []
-item_layout (resource w) = say (key keys.Resource) ∷ space ∷ word_piece w ∷ feed ∷ []
-item_layout (process w inside vars ports) =
-    say (key keys.Process) ∷ space ∷ word_piece w ∷ inside_layout inside
-    ++ space ∷ braced 0 (flat_map var_layout vars ++ flat_map port_layout ports) ++ feed ∷ []
+item_layout (input i) =
+    say (key keys.Input) ∷ space ∷ word_piece i.name ∷ say (mark LeftParen) ∷ number_piece i.width ∷ say (mark RightParen)
+    ∷ space ∷ say (key keys.Period) ∷ space ∷ number_piece i.period ∷ feed ∷ []
+item_layout (output o) = say (key keys.Output) ∷ space ∷ word_piece o.name ∷ space ∷ say (key keys.From) ∷ space ∷ path_layout o.path ++ feed ∷ []
+item_layout (resource r) = say (key keys.Resource) ∷ space ∷ word_piece r.name ∷ feed ∷ []
+item_layout (process p) =
+    say (key keys.Process) ∷ space ∷ word_piece p.name ∷ inside_layout p.inside
+    ++ space ∷ braced 0 (flat_map var_layout p.vars ++ flat_map port_layout p.ports) ++ feed ∷ []
 
 -- the lines of a graph
 abbrev pub layout_of : List ItemTree → List Piece

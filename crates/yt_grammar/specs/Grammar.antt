@@ -192,10 +192,10 @@ inside_form (Some w) = keyword keys.In ▹ named w
 
 -- a part of a graph
 abbrev pub item_form : ItemTree → Form
-item_form (input w width period) = keyword keys.Input ▹ named w ▹ parens (counted width) ▹ keyword keys.Period ▹ counted period
-item_form (output w path) = keyword keys.Output ▹ named w ▹ keyword keys.From ▹ path_form path
-item_form (resource w) = keyword keys.Resource ▹ named w
-item_form (process w inside vars ports) = keyword keys.Process ▹ named w ▹ inside_form inside ▹ braces (each var_form vars ▹ each port_form ports)
+item_form (input i) = keyword keys.Input ▹ named i.name ▹ parens (counted i.width) ▹ keyword keys.Period ▹ counted i.period
+item_form (output o) = keyword keys.Output ▹ named o.name ▹ keyword keys.From ▹ path_form o.path
+item_form (resource r) = keyword keys.Resource ▹ named r.name
+item_form (process p) = keyword keys.Process ▹ named p.name ▹ inside_form p.inside ▹ braces (each var_form p.vars ▹ each port_form p.ports)
 
 -- the tokens spell the tree
 abbrev pub Spells : List Tok → List ItemTree → Type 0

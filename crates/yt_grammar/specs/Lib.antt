@@ -4,5 +4,4 @@ pub mod Grammar
 pub mod Writable
 pub mod CanonicalText
 pub mod SamePlaces
-pub mod Reading
-pub mod Parts
+pub mod Inside

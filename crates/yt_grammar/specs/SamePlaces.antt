@@ -82,10 +82,10 @@ port_at_start p =
 
 -- the same part of a graph
 abbrev pub item_at_start : ItemTree → ItemTree
-item_at_start (input w width period) = input (word_at_start w) (num_at_start width) (num_at_start period)
-item_at_start (output w path) = output (word_at_start w) (path_at_start path)
-item_at_start (resource w) = resource (word_at_start w)
-item_at_start (process w inside vars ports) = process (word_at_start w) (option_map word_at_start inside) (map var_at_start vars) (map port_at_start ports)
+item_at_start (input i) = input (record { name = word_at_start i.name; width = num_at_start i.width; period = num_at_start i.period })
+item_at_start (output o) = output (record { name = word_at_start o.name; path = path_at_start o.path })
+item_at_start (resource r) = resource (record { name = word_at_start r.name })
+item_at_start (process p) = process (record { name = word_at_start p.name; inside = option_map word_at_start p.inside; vars = map var_at_start p.vars; ports = map port_at_start p.ports })
 
 -- the tree with each place set to line 1, column 1
 abbrev pub without_places : List ItemTree → List ItemTree

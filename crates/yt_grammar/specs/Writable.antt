@@ -97,10 +97,10 @@ is_inside (Some w) = is_name w.text
 
 -- a part of a graph
 abbrev pub is_item : ItemTree → Bool
-is_item (input w width period) = is_name w.text && (is_count width.value && is_count period.value)
-is_item (output w path) = is_name w.text && is_path path
-is_item (resource w) = is_name w.text
-is_item (process w inside vars ports) = is_name w.text && (is_inside inside && (list_all is_var vars && list_all is_port ports))
+is_item (input i) = is_name i.name.text && (is_count i.width.value && is_count i.period.value)
+is_item (output o) = is_name o.name.text && is_path o.path
+is_item (resource r) = is_name r.name.text
+is_item (process p) = is_name p.name.text && (is_inside p.inside && (list_all is_var p.vars && list_all is_port p.ports))
 
 -- the tree can be written
 abbrev pub is_writable : List ItemTree → Bool

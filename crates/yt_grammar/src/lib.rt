@@ -3,7 +3,8 @@
 //!
 //! Reading (`yt_parser`) and printing (`yt_printer`) stand on it and do not know each other. This crate knows nothing of
 //! what names mean, of costs or of schedules, and it neither reads nor prints. Its contract: no tokens spell two trees
-//! ([`one_tree`]), and [`ast_ok`] tells the trees that some tokens spell.
+//! ([`one_tree`]), and [`ast_ok`] tells the trees that some tokens spell, each of which can be written
+//! ([`spelled_is_writable`]).
 #![tactic(auto)]
 
 mod grammar_laws;
@@ -12,7 +13,7 @@ mod ranks;
 mod sign;
 mod writable;
 
-pub use grammar_laws::{keywords_are_reserved, one_tree};
+pub use grammar_laws::{keywords_are_reserved, one_tree, spelled_is_writable};
 pub use limits::{MOST_BLOCK_DEPTH, MOST_EXPR_DEPTH};
 pub use ranks::{COMPARISON, LOOSEST, op_rank, right_rank};
 pub use sign::{Keyword, Mark};

@@ -3,6 +3,7 @@
 ghost use Rattle.std.specs.Prelude.{◌≡◌, ◌↔◌, IsTrue, map};
 ghost use Rattle.std.specs.List.{list_all};
 ghost use Rattle.yt_graph.specs.AstPicture.{ast_expr_tree, ast_exprs_tree, ast_stmt_tree, ast_block_tree, port_decl_tree, item_tree, ast_tree};
+ghost use Rattle.yt_graph.specs.AstWellFormed.{IsWritable};
 ghost use Rattle.yt_grammar.specs.Grammar.{left_rank, rank_of};
 ghost use Rattle.yt_grammar.specs.SamePlaces.{IsWritten};
 ghost use Rattle.yt_grammar.specs.Writable.{is_count, is_start, is_expr, are_args, are_exprs, is_stmt, are_stmts, is_path, is_source, is_every, is_out, is_var, is_param, is_port, is_inside, is_item};
@@ -16,7 +17,8 @@ use yt_graph::{
 
 /// Whether some tokens spell the tree, so that it can be written.
 pub fn ast_ok(ast: &Ast) -> bool
-    ensures { IsTrue result ↔ IsWritten (ast_tree ast.now) }
+    ensures written { IsTrue result ↔ IsWritten (ast_tree ast.now) }
+    ensures writable { IsTrue result → IsWritable (ast_tree ast.now) }
 {
     items_ok(ast.items.as_slice())
 }

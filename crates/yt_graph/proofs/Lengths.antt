@@ -2,7 +2,7 @@
 use Rattle.std.proofs.Common.{◌≡◌, ℕ, zero, suc, ◌+◌, List, length, refl, ◌∙◌}
 use Rattle.std.specs.Prelude.{Bool, true, false, ℤ}
 use Rattle.std.proofs.Math.ListN.{length-set}
-use Rattle.yt_graph.specs.Picture.{StmtTree, set_local, set_var, send, if_only, if_else, repeat, BlockTree, empty, more, PortTree}
+use Rattle.yt_graph.specs.Picture.{StmtTree, set_local, set_var, send, if_only, if_else, repeat, BlockTree, empty, more, PortTree, GraphTree}
 use Rattle.yt_graph.specs.Meaning.{Run, expr_value, expr_ticks, spend, is_not_zero, choose, turns_of, turns, stmt_run, block_run, start, handling}
 
 -- the same numbers of locals and variables
@@ -46,5 +46,5 @@ mutual
   block_keeps (more a rest) s = same_trans s (stmt_run a s) _ (stmt_keeps a s) (block_keeps rest (stmt_run a s))
 
 -- a handling keeps the number of variables
-pub handling_vars : (port : PortTree) (msg vars : List ℤ) → length (handling port msg vars).vars ≡ length vars
-handling_vars port msg vars = (block_keeps port.body (start port.locals msg vars)).vars
+pub handling_vars : (graph : GraphTree) (port : PortTree) (msg vars : List ℤ) → length (handling graph port msg vars).vars ≡ length vars
+handling_vars graph port msg vars = (block_keeps port.body (start port.locals msg vars)).vars

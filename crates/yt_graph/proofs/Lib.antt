@@ -1,5 +1,6 @@
 mod AstPictures
 mod Examples
+mod Heads
 pub mod Lemmas
 mod Lengths
 mod Pictures

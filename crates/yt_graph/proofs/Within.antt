@@ -40,7 +40,7 @@ mutual
   block_ticks (more a rest) s = omega (arith, stmt_ticks a s, block_ticks rest (stmt_run a s))
 
 pub ticks_within : TicksWithinCost
-ticks_within port msg vars = omega (arith, block_ticks port.body (start port.locals msg vars))
+ticks_within graph port msg vars = omega (arith, block_ticks port.body (start port.locals msg vars))
 
 sent_on-append : (out : ℕ) (xs : List SendItem) (x : SendItem) → sent_on out (xs ++ x ∷ []) ≡ sent_on out xs + one_if_same out x.out
 sent_on-append out [] x = omega arith
@@ -77,4 +77,4 @@ mutual
   block_on out (more a rest) s = omega (arith, stmt_on out a s, block_on out rest (stmt_run a s))
 
 pub sends_within : SendsWithinGreatest
-sends_within port out msg vars = omega (arith, block_on out port.body (start port.locals msg vars))
+sends_within graph port out msg vars = omega (arith, block_on out port.body (start port.locals msg vars))

@@ -99,12 +99,34 @@ pub record PortDeclTree : Type 0 where
   pub outs : List OutDecl
   pub body : AstBlockTree
 
+-- an input as it is written
+pub record InputTree : Type 0 where
+  pub name : Word
+  pub width : Num
+  pub period : Num
+
+-- an output as it is written
+pub record OutputTree : Type 0 where
+  pub name : Word
+  pub path : Path
+
+-- a resource as it is written
+pub record ResourceTree : Type 0 where
+  pub name : Word
+
+-- a process as it is written: the resource that it is in, where one is written, its variables and its ports
+pub record ProcessTree : Type 0 where
+  pub name : Word
+  pub inside : Option Word
+  pub vars : List VarDecl
+  pub ports : List PortDeclTree
+
 -- a part of a graph as it is written
 pub data ItemTree : Type 0 where
-  input : Word → Num → Num → ItemTree
-  output : Word → Path → ItemTree
-  resource : Word → ItemTree
-  process : Word → Option Word → List VarDecl → List PortDeclTree → ItemTree
+  input : InputTree → ItemTree
+  output : OutputTree → ItemTree
+  resource : ResourceTree → ItemTree
+  process : ProcessTree → ItemTree
 
 -- the picture of a port
 abbrev pub port_decl_tree : PortDecl → PortDeclTree
@@ -112,10 +134,10 @@ port_decl_tree p = record { name = p.name; source = p.source; params = p.params;
 
 -- the picture of a part of a graph
 abbrev pub item_tree : declared_item.Item → ItemTree
-item_tree (Input w width period) = input w width period
-item_tree (Output w path) = output w path
-item_tree (Resource w) = resource w
-item_tree (Process w inside vars ports) = process w inside vars (map port_decl_tree ports)
+item_tree (Input w width period) = input (record { name = w; width = width; period = period })
+item_tree (Output w path) = output (record { name = w; path = path })
+item_tree (Resource w) = resource (record { name = w })
+item_tree (Process w inside vars ports) = process (record { name = w; inside = inside; vars = vars; ports = map port_decl_tree ports })
 
 -- the picture of a syntax tree
 abbrev pub ast_tree : declared_ast.Ast → List ItemTree

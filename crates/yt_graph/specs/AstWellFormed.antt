@@ -107,10 +107,10 @@ IsWritableInside None = Unit {0}
 IsWritableInside (Some w) = IsName w
 
 abbrev pub IsWritableItem : ItemTree → Type 0
-IsWritableItem (input w width period) = IsName w × IsWrittenNumber width.value × IsWrittenNumber period.value
-IsWritableItem (output w path) = IsName w × IsWritablePath path
-IsWritableItem (resource w) = IsName w
-IsWritableItem (process w inside vars ports) = IsName w × IsWritableInside inside × All (λ v. IsName v.name) vars × All IsWritablePort ports
+IsWritableItem (input i) = IsName i.name × IsWrittenNumber i.width.value × IsWrittenNumber i.period.value
+IsWritableItem (output o) = IsName o.name × IsWritablePath o.path
+IsWritableItem (resource r) = IsName r.name
+IsWritableItem (process p) = IsName p.name × IsWritableInside p.inside × All (λ v. IsName v.name) p.vars × All IsWritablePort p.ports
 
 -- a tree of such parts
 abbrev pub IsWritable : List ItemTree → Type 0

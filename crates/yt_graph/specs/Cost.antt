@@ -1,7 +1,7 @@
 -- A handler's greatest cost and greatest number of sends, by recursion on its picture.
 use Rattle.std.specs.Prelude.{ℕ, ◌+◌, ◌*◌, ◌≤◌, max, ℤ, List, [], ◌∷◌, ◌==◌, if◌then◌else◌}
 use Rattle.yt_graph.specs.declared.handled.SendItem.{SendItem}
-use Rattle.yt_graph.specs.Picture.{StmtTree, set_local, set_var, send, if_only, if_else, repeat, BlockTree, empty, more, PortTree}
+use Rattle.yt_graph.specs.Picture.{StmtTree, set_local, set_var, send, if_only, if_else, repeat, BlockTree, empty, more, PortTree, GraphTree}
 use Rattle.yt_graph.specs.Meaning.{expr_ticks, all_ticks, handling}
 
 -- the most ticks that a statement or a block can take
@@ -51,9 +51,9 @@ sent_on out (s ∷ rest) = one_if_same out s.out + sent_on out rest
 
 -- no handling takes more ticks than the greatest cost
 abbrev pub TicksWithinCost : Type 0
-TicksWithinCost = (port : PortTree) (msg vars : List ℤ) → (handling port msg vars).ticks ≤ greatest_cost port
+TicksWithinCost = (graph : GraphTree) (port : PortTree) (msg vars : List ℤ) → (handling graph port msg vars).ticks ≤ greatest_cost port
 
 -- no handling sends more messages on an out than the greatest number
 abbrev pub SendsWithinGreatest : Type 0
 SendsWithinGreatest =
-    (port : PortTree) (out : ℕ) (msg vars : List ℤ) → sent_on out (handling port msg vars).sends ≤ greatest_sends port out
+    (graph : GraphTree) (port : PortTree) (out : ℕ) (msg vars : List ℤ) → sent_on out (handling graph port msg vars).sends ≤ greatest_sends port out

@@ -4,7 +4,7 @@ use Rattle.yt_graph.specs.AstPicture.{ItemTree, input, output, resource, process
 
 -- inputs, outputs, resources and processes, whose names are one set
 abbrev pub item_name : ItemTree → List ℕ
-item_name (input w width period) = w.text
-item_name (output w path) = w.text
-item_name (resource w) = w.text
-item_name (process w inside vars ports) = w.text
+item_name (input i) = i.name.text
+item_name (output o) = o.name.text
+item_name (resource r) = r.name.text
+item_name (process p) = p.name.text

@@ -4,10 +4,14 @@ pub mod ItemNames
 pub mod AstWellFormed
 pub mod AstParts
 pub mod Picture
+pub mod Inputs
 pub mod WellFormed
 pub mod Parts
 pub mod Meaning
 pub mod Cost
+pub mod Sends
+pub mod Writes
+pub mod Operators
 pub mod Reserved
 pub mod Names
 pub mod Labels

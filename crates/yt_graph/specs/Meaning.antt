@@ -6,7 +6,7 @@ use Rattle.yt_graph.specs.declared.expr.Op2.{Op2}
 use Rattle.yt_graph.specs.declared.expr.Op2.TheVariants.{Or, And, Lt, Le, Gt, Ge, Eq, Ne, Add, Sub, Mul, Div, Rem}
 use Rattle.yt_graph.specs.declared.handled.SendItem.{SendItem}
 use Rattle.yt_graph.specs.declared.handled.Write.{Write}
-use Rattle.yt_graph.specs.Picture.{ExprTree, num, local, var, neg, lnot, two, call, ExprsTree, no_exprs, more_exprs, StmtTree, set_local, set_var, send, if_only, if_else, repeat, BlockTree, empty, more, PortTree}
+use Rattle.yt_graph.specs.Picture.{ExprTree, num, local, var, neg, lnot, two, call, ExprsTree, no_exprs, more_exprs, StmtTree, set_local, set_var, send, if_only, if_else, repeat, BlockTree, empty, more, PortTree, GraphTree}
 
 -- what a condition makes of a number: it holds where the number isn't 0
 abbrev pub is_not_zero : ℤ → Bool
@@ -161,6 +161,6 @@ pub record Handling : Type 0 where
 abbrev pub handling_of : Run → Handling
 handling_of s = record { vars = s.vars; sends = s.sends; ticks = s.ticks; writes = s.writes }
 
--- a port's handling of a message, which begins with these variables
-abbrev pub handling : PortTree → List ℤ → List ℤ → Handling
-handling port msg vars = handling_of (handler_run port.body port.locals msg vars)
+-- a graph's port's handling of a message, which begins with these variables
+abbrev pub handling : GraphTree → PortTree → List ℤ → List ℤ → Handling
+handling graph port msg vars = handling_of (handler_run port.body port.locals msg vars)

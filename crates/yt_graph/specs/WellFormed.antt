@@ -1,7 +1,7 @@
 -- When a graph is well formed: its names differ, its numbers name things that are there, and all is within its limits.
 use Rattle.std.specs.Prelude.{◌≡◌, ℕ, zero, suc, ◌+◌, ◌<◌, ◌≤◌, ◌-◌, max, Bool, true, false, ◌&&◌, ◌||◌, IsTrue, List, [], ◌∷◌, ◌++◌, length, map, slice_get, bytes_eq, IsSomeAnd}
 use Rattle.std.specs.List.{All, list_any}
-use Rattle.yt_graph.specs.Limits.{most_inputs, most_outputs, most_groups, most_ports, most_vars, most_outs, most_locals, most_width, most_period, most_every, most_turns, most_op_args, most_op_ticks, most_op_code, most_expr_depth, most_block_depth}
+use Rattle.yt_graph.specs.Limits.{most_inputs, most_outputs, most_groups, most_processes, most_ports, most_vars, most_outs, most_locals, most_width, most_period, most_every, most_turns, most_op_args, most_op_ticks, most_op_code, most_expr_depth, most_block_depth}
 use Rattle.yt_graph.specs.Names.{is_name}
 use Rattle.yt_graph.specs.declared.port.Feed as feed
 use Rattle.yt_graph.specs.declared.port.Feed.{Feed}
@@ -184,13 +184,19 @@ outer_names g = map (λ i. i.name) g.inputs ++ map (λ o. o.name) g.outputs
 abbrev pub IsFineVar : GraphTree → graph.Var.Var → Type 0
 IsFineVar g v = IsTrue (is_name v.process) × IsTrue (is_name v.name) × (list_any (bytes_eq v.process) (outer_names g) ≡ false)
 
--- a graph has at most 16 inputs and outputs each, 32 declared resources and 64 of processes, 256 variables and 64 ports
+-- a list that names the process of each port and of each variable
+pub record NamesProcesses (g : GraphTree) (names : List (List ℕ)) : Type 0 where
+  pub of_ports : All (λ p. list_any (bytes_eq p.process) names ≡ true) g.ports
+  pub of_vars : All (λ v. list_any (bytes_eq v.process) names ≡ true) g.vars
+
+-- a graph has at most 16 inputs and outputs each, 32 declared resources and 64 of processes, 256 variables and 64 ports, of at most 64 processes
 pub record IsCounted (g : GraphTree) : Type 0 where
   pub inputs : length g.inputs ≤ most_inputs
   pub outputs : length g.outputs ≤ most_outputs
   pub groups : length g.groups ≤ most_groups
   pub vars : length g.vars ≤ most_vars
   pub ports : length g.ports ≤ most_ports
+  pub processes : (names : List (List ℕ)) × (length names ≤ most_processes) × NamesProcesses g names
 
 pub record IsWellFormed (g : GraphTree) : Type 0 where
   pub counts : IsCounted g

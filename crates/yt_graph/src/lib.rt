@@ -18,6 +18,7 @@ mod limits;
 mod named;
 mod names;
 mod operator;
+mod ops;
 mod parts;
 mod place;
 mod port;
@@ -42,6 +43,7 @@ pub use limits::{
 };
 pub use names::{is_digit, is_letter, is_name, is_word_byte};
 pub use operator::OpHead;
+pub use ops::{NoOps, Ops};
 pub use parts::{ExprParts, Parts, open, open_expr};
 pub use place::Place;
 pub use port::{Feed, OutHead, OutHeads, Port, Ports};

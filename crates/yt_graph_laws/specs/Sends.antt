@@ -16,4 +16,4 @@ pub record IsSendOf (port : PortTree) (sent : SendItem) : Type 0 where
 abbrev pub SendsHaveTheirWidth : Type 0
 SendsHaveTheirWidth =
     (g : GraphTree) → IsWellFormed g → (place : ℕ) (port : PortTree) → slice_get g.ports place ≡ Some port →
-    (message vars : List ℤ) → All (IsSendOf port) (handling port message vars).sends
+    (message vars : List ℤ) → All (IsSendOf port) (handling g port message vars).sends

@@ -1,3 +1,4 @@
 mod Examples
+pub mod Formed
 pub mod Plain
 pub mod Shapes

@@ -79,7 +79,7 @@ fn tells_what_it_was_made_of(rt: HostRuntime) -> Result<(), Fail> {
     );
     assert_eq!(rt; handler.instrs().len(), 4);
     if handler.instrs().len() > 1 {
-        assert_eq!(rt; handler.at(1), Instr::Push(2));
+        assert_eq!(rt; *handler.at(1), Instr::Push(2));
     }
     Ok(())
 }

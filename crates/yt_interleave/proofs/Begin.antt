@@ -62,7 +62,7 @@ module _ (g : GraphTree) (well : IsWellFormed g) (rates : All (IsWithinRates g) 
 
   module _ (job : Job) (m : PortMessage) (may : MayBegin g s r job m) where
     abbrev h : Handling
-    h = handling (port_at g job.task) m.values s.vars
+    h = handling g (port_at g job.task) m.values s.vars
 
     abbrev b : ActiveJob
     b = record { job = job; message = m; vars = s.vars }
@@ -79,8 +79,8 @@ module _ (g : GraphTree) (well : IsWellFormed g) (rates : All (IsWithinRates g) 
     abbrev new : Handled
     new = record { item = item; writes = h.writes }
 
-    written : IsWritten (port_at g job.task) s.vars h
-    written = handling_written (port_at g job.task) m.values s.vars
+    written : IsWritten g (port_at g job.task) s.vars h
+    written = handling_written g (port_at g job.task) m.values s.vars
 
     at_serial : numbered (messages_at s job.task) job.number ≡ Some m
     at_serial = known_first job.task job.number m may.there

@@ -36,8 +36,8 @@ module _ (g : GraphTree) (trace : List Message) (order : List Job) (s : Serial) 
   at_task : r.active b.job.task ≡ Some b
   at_task = ap r.active u.task ∙ at_port
 
-  written : IsWritten (port_at g b.job.task) b.vars h
-  written = handling_written (port_at g b.job.task) b.message.values b.vars
+  written : IsWritten g (port_at g b.job.task) b.vars h
+  written = handling_written g (port_at g b.job.task) b.message.values b.vars
 
   at_cases : (p : ℕ) (c : ActiveJob) → active' p ≡ Some c → (p ≡ b.job.task → ⊥) × (r.active p ≡ Some c)
   at_cases p c here =

@@ -12,7 +12,7 @@ use Rattle.yt_code.specs.declared.stepped.Stepped.TheVariants.{Going, Ended}
 use Rattle.yt_code.specs.Step.{State, Tick, instruction_step}
 use Rattle.yt_code.specs.Valid.{Program}
 use Rattle.yt_cost.specs.CodeAlone.{Progress, Advance, with_tick, advance, tick_alone, going, ticks_alone, begin_alone, written, written_before, Does, MeansPort}
-use Rattle.yt_cost.specs.CodeVars.{block_vars, instrs_vars, AgreeAt, ChangesOnlyAt, IsSameAt, AreSameAt, ChangesAtMost, UsesVarsOf}
+use Rattle.yt_cost.specs.CodeVars.{port_vars, instrs_vars, AgreeAt, ChangesOnlyAt, IsSameAt, AreSameAt, ChangesAtMost, UsesVarsOf}
 use Rattle.yt_cost.proofs.Lemmas.{keeps}
 use Rattle.yt_cost.proofs.Lemmas.{next_tick}
 use Rattle.yt_log.specs.declared.job.Job.{Job}
@@ -68,27 +68,27 @@ same_tick : (places : List ℕ) (now : List ℤ) (o : Option Tick) (u : Tick) �
 same_tick places now None u h k = absurd h
 same_tick places now (Some t) u h k = (t, refl, h, k)
 
-module _ (code : Program) (port : PortTree) (msg vars : List ℤ) (means : MeansPort code port) (own : UsesVarsOf code port) where
+module _ (g : GraphTree) (code : Program) (port : PortTree) (msg vars : List ℤ) (means : MeansPort g code port) (own : UsesVarsOf g code port) where
   abbrev whole : Handling
-  whole = handling port msg vars
+  whole = handling g port msg vars
 
-  does : Does code msg vars (handling port msg vars)
+  does : Does code msg vars (handling g port msg vars)
   does = means.each msg vars
 
-  known : IsWritten port vars (handling port msg vars)
-  known = handling_written port msg vars
+  known : IsWritten g port vars (handling g port msg vars)
+  known = handling_written g port msg vars
 
   -- after so many ticks the variables are what the writes so far make of those at the beginning
-  vars_at : (n : ℕ) → n < (handling port msg vars).ticks → (p : Progress) → IsAloneAt code msg vars n p → p.so_far.vars ≡ written_before n (handling port msg vars).writes vars
+  vars_at : (n : ℕ) → n < (handling g port msg vars).ticks → (p : Progress) → IsAloneAt code msg vars n p → p.so_far.vars ≡ written_before n (handling g port msg vars).writes vars
   vars_at n lt p at =
       let way = does.on_the_way n lt in
       let same : way.0 ≡ p = same_Some way.0 p (sym way.1 ∙ at) in
       ap (λ (x : Progress). x.so_far.vars) (sym same) ∙ way.2.vars_now
 
   -- the variables after a tick alone and under the others' variables
-  writes_now : (n : ℕ) → n < (handling port msg vars).ticks → (p : Progress) → IsAloneAt code msg vars n p → (now : List ℤ) → AgreeAt (instrs_vars code.instrs) now p.so_far.vars
+  writes_now : (n : ℕ) → n < (handling g port msg vars).ticks → (p : Progress) → IsAloneAt code msg vars n p → (now : List ℤ) → AgreeAt (instrs_vars code.instrs) now p.so_far.vars
       → (t u : Tick) → IsSameAt (instrs_vars code.instrs) t u → ChangesOnlyAt (instrs_vars code.instrs) now t.vars
-      → u.vars ≡ written_before (suc n) (handling port msg vars).writes vars → t.vars ≡ after_writes (writes_at n (handling port msg vars).writes) now
+      → u.vars ≡ written_before (suc n) (handling g port msg vars).writes vars → t.vars ≡ after_writes (writes_at n (handling g port msg vars).writes) now
   writes_now n lt p at now agree t u same only after =
       let ws = writes_at n whole.writes in
       let here = vars_at n lt p at in
@@ -101,12 +101,12 @@ module _ (code : Program) (port : PortTree) (msg vars : List ℤ) (means : Means
       (λ (never : Contains (instrs_vars code.instrs) v → ⊥).
       only.others v never
       ∙ sym (kept_after ws now v (λ w has e.
-      never (subst (λ (xs : List ℕ). Contains xs v) (sym own) (subst (Contains (block_vars port.body)) e (known.own w (has_at n whole.writes w has)))))))
+      never (subst (λ (xs : List ℕ). Contains xs v) (sym own) (subst (Contains (port_vars g port)) e (known.own w (has_at n whole.writes w has)))))))
       (contains_or_not (instrs_vars code.instrs) v))
 
   -- not the last tick
-  pub going_tick : (n : ℕ) → n + 1 < (handling port msg vars).ticks → (p : Progress) → IsAloneAt code msg vars n p → (now : List ℤ) → AgreeAt (instrs_vars code.instrs) now p.so_far.vars
-      → (t : Tick) × (instruction_step code.instrs p.machine now ≡ Some t) × (t.vars ≡ after_writes (writes_at n (handling port msg vars).writes) now) × GoesOnAlone code msg vars n p t
+  pub going_tick : (n : ℕ) → n + 1 < (handling g port msg vars).ticks → (p : Progress) → IsAloneAt code msg vars n p → (now : List ℤ) → AgreeAt (instrs_vars code.instrs) now p.so_far.vars
+      → (t : Tick) × (instruction_step code.instrs p.machine now ≡ Some t) × (t.vars ≡ after_writes (writes_at n (handling g port msg vars).writes) now) × GoesOnAlone code msg vars n p t
   going_tick n lt p at now agree =
       let way = does.on_the_way (n + 1) lt in
       let q = way.0 in
@@ -119,7 +119,7 @@ module _ (code : Program) (port : PortTree) (msg vars : List ℤ) (means : Means
       let next : n + 1 ≡ suc n = omega arith in
       let after : u.vars ≡ written_before (suc n) whole.writes vars =
       ap (λ (x : Progress). x.so_far.vars) a.3 ∙ way.2.vars_now ∙ ap (λ (k : ℕ). written_before k whole.writes vars) next in
-      (t, same.1, writes_now n (omega arith) p at now agree t u same.2 same.3 after, goes (written (slice_get code.instrs p.machine.place) p.machine.stack p.so_far.ticks) t u q a.2 a.3 way.1 same.2)
+      (t, same.1, writes_now n (omega arith) p at now agree t u same.2 same.3 after, goes (written (slice_get code.instrs p.machine.place) p.machine p.so_far.vars p.so_far.ticks) t u q a.2 a.3 way.1 same.2)
     where
       goes : (ws : List Write) (t u : Tick) (q : Progress) → u.stepped ≡ Going → (record { machine = u.machine; so_far = with_tick ws p.so_far u }) ≡ q → IsAloneAt code msg vars (n + 1) q → IsSameAt (instrs_vars code.instrs) t u → GoesOnAlone code msg vars n p t
       goes ws t u q stepped e alone same = record {
@@ -132,8 +132,8 @@ module _ (code : Program) (port : PortTree) (msg vars : List ℤ) (means : Means
       }
 
   -- the last tick
-  pub last_tick : (n : ℕ) → n + 1 ≡ (handling port msg vars).ticks → (p : Progress) → IsAloneAt code msg vars n p → (now : List ℤ) → AgreeAt (instrs_vars code.instrs) now p.so_far.vars
-      → (t : Tick) × (instruction_step code.instrs p.machine now ≡ Some t) × (t.vars ≡ after_writes (writes_at n (handling port msg vars).writes) now) × EndsAlone p (handling port msg vars) t
+  pub last_tick : (n : ℕ) → n + 1 ≡ (handling g port msg vars).ticks → (p : Progress) → IsAloneAt code msg vars n p → (now : List ℤ) → AgreeAt (instrs_vars code.instrs) now p.so_far.vars
+      → (t : Tick) × (instruction_step code.instrs p.machine now ≡ Some t) × (t.vars ≡ after_writes (writes_at n (handling g port msg vars).writes) now) × EndsAlone p (handling g port msg vars) t
   last_tick n end p at now agree =
       let before : whole.ticks - 1 ≡ n = omega arith in
       let is : does.last ≡ p = same_Some does.last p (sym does.comes ∙ ap (λ (k : ℕ). ticks_alone code.instrs k (begin_alone code msg vars)) before ∙ at) in
@@ -154,36 +154,36 @@ module _ (code : Program) (port : PortTree) (msg vars : List ℤ) (means : Means
         },
       )
 
-  pub tick_of : (n : ℕ) → n < (handling port msg vars).ticks → (p : Progress) → IsAloneAt code msg vars n p → (now : List ℤ) → AgreeAt (instrs_vars code.instrs) now p.so_far.vars → IsTickOf code port msg vars n p now
+  pub tick_of : (n : ℕ) → n < (handling g port msg vars).ticks → (p : Progress) → IsAloneAt code msg vars n p → (now : List ℤ) → AgreeAt (instrs_vars code.instrs) now p.so_far.vars → IsTickOf g code port msg vars n p now
   tick_of n lt p at now agree =
       ⊎_elim
       (λ (more : n + 1 < whole.ticks).
-      let g = going_tick n more p at now agree in
-      record { tick = g.0; defined = g.1; writes = g.2; goes_on = λ h. g.3; ends = λ e. absurd (omega arith) })
+      let way = going_tick n more p at now agree in
+      record { tick = way.0; defined = way.1; writes = way.2; goes_on = λ h. way.3; ends = λ e. absurd (omega arith) })
       (λ (ge : whole.ticks ≤ n + 1).
       let l = last_tick n (omega arith) p at now agree in
       record { tick = l.0; defined = l.1; writes = l.2; goes_on = λ h. absurd (omega arith); ends = λ e. l.3 })
       (cases_lt (n + 1) whole.ticks)
 
   -- as many ticks are left of the machine as of the handling
-  pub left_of : (k n fuel : ℕ) → n + suc k ≡ (handling port msg vars).ticks → suc k ≤ fuel → (p : Progress) → IsAloneAt code msg vars n p → (now : List ℤ) → AgreeAt (instrs_vars code.instrs) now p.so_far.vars
+  pub left_of : (k n fuel : ℕ) → n + suc k ≡ (handling g port msg vars).ticks → suc k ≤ fuel → (p : Progress) → IsAloneAt code msg vars n p → (now : List ℤ) → AgreeAt (instrs_vars code.instrs) now p.so_far.vars
       → ticks_left code.instrs fuel p.machine now ≡ suc k
   left_of k n zero sum le p at now agree = absurd (omega arith)
   left_of zero n (suc fuel) sum le p at now agree =
       let l = last_tick n (omega arith) p at now agree in
       ap (λ (o : Option Tick). left_by o (ticks_left code.instrs fuel)) l.1 ∙ ap (λ (x : Stepped). left_more x (ticks_left code.instrs fuel l.0.machine l.0.vars)) l.3.ended
   left_of (suc k) n (suc fuel) sum le p at now agree =
-      let g = going_tick n (omega arith) p at now agree in
-      let t = g.0 in
-      let on = g.3 in
+      let way = going_tick n (omega arith) p at now agree in
+      let t = way.0 in
+      let on = way.3 in
       let rest = left_of k (n + 1) fuel (omega arith) (omega arith) on.next on.alone t.vars on.agree in
-      ap (λ (o : Option Tick). left_by o (ticks_left code.instrs fuel)) g.1
+      ap (λ (o : Option Tick). left_by o (ticks_left code.instrs fuel)) way.1
       ∙ ap (λ (x : Stepped). left_more x (ticks_left code.instrs fuel t.machine t.vars)) on.going
       ∙ ap suc (ap (λ (m : State). ticks_left code.instrs fuel m t.vars) (sym on.machine) ∙ rest)
 
   -- the variables are the handling's where the code uses them
-  pub agree_at : (n : ℕ) → n < (handling port msg vars).ticks → (p : Progress) → IsAloneAt code msg vars n p → (now : List ℤ) → length vars ≡ length now
-      → ((v : ℕ) → Contains (block_vars port.body) v → value_at now v ≡ value_at (written_before n (handling port msg vars).writes vars) v) → AgreeAt (instrs_vars code.instrs) now p.so_far.vars
+  pub agree_at : (n : ℕ) → n < (handling g port msg vars).ticks → (p : Progress) → IsAloneAt code msg vars n p → (now : List ℤ) → length vars ≡ length now
+      → ((v : ℕ) → Contains (port_vars g port) v → value_at now v ≡ value_at (written_before n (handling g port msg vars).writes vars) v) → AgreeAt (instrs_vars code.instrs) now p.so_far.vars
   agree_at n lt p at now long same =
       let here = vars_at n lt p at in
       record {
@@ -192,45 +192,45 @@ module _ (code : Program) (port : PortTree) (msg vars : List ℤ) (means : Means
       }
 
 module _ (g : GraphTree) (trace : List Message) (can : CanRun g trace) (s : Serial) (r : RunState) (is : Interleaves g trace s r) where
-  module _ (port : ℕ) (b : ActiveJob) (at_port : r.active port ≡ Some b) (code : Program) (means : MeansPort code (port_at g port)) (own : UsesVarsOf code (port_at g port))
+  module _ (port : ℕ) (b : ActiveJob) (at_port : r.active port ≡ Some b) (code : Program) (means : MeansPort g code (port_at g port)) (own : UsesVarsOf g code (port_at g port))
       (p : Progress) (alone : IsAloneAt code b.message.values b.vars (done r.log b.job (length r.log)) p) where
     abbrev n : ℕ
     n = done r.log b.job (length r.log)
 
-    same_whole : whole_of g b ≡ handling (port_at g port) b.message.values b.vars
-    same_whole = ap (λ (t : ℕ). handling (port_at g t) b.message.values b.vars) (is.stands.under_way port b at_port).task
+    same_whole : whole_of g b ≡ handling g (port_at g port) b.message.values b.vars
+    same_whole = ap (λ (t : ℕ). handling g (port_at g t) b.message.values b.vars) (is.stands.under_way port b at_port).task
 
-    left : done r.log b.job (length r.log) < (handling (port_at g port) b.message.values b.vars).ticks
+    left : done r.log b.job (length r.log) < (handling g (port_at g port) b.message.values b.vars).ticks
     left = let u = is.unfinished port b at_port in let e = ap (λ (h : Handling). h.ticks) same_whole in omega arith
 
     agree : AgreeAt (instrs_vars code.instrs) r.vars p.so_far.vars
     agree =
         let u = is.stands.under_way port b at_port in
-        agree_at code (port_at g port) b.message.values b.vars means own n left p alone r.vars u.count
+        agree_at g code (port_at g port) b.message.values b.vars means own n left p alone r.vars u.count
         (λ v h. u.now v h ∙ ap (λ (x : Handling). value_at (written_before n x.writes b.vars) v) same_whole)
 
-    pub tick_here : IsTickOf code (port_at g port) b.message.values b.vars (done r.log b.job (length r.log)) p r.vars
-    tick_here = tick_of code (port_at g port) b.message.values b.vars means own n left p alone r.vars agree
+    pub tick_here : IsTickOf g code (port_at g port) b.message.values b.vars (done r.log b.job (length r.log)) p r.vars
+    tick_here = tick_of g code (port_at g port) b.message.values b.vars means own n left p alone r.vars agree
 
     pub left_here : (fuel : ℕ) → (whole_of g b).ticks ≤ fuel → done r.log b.job (length r.log) + ticks_left code.instrs fuel p.machine r.vars ≡ (whole_of g b).ticks
     left_here fuel le =
         let e = ap (λ (h : Handling). h.ticks) same_whole in
         let l = left in
         let k = (whole_of g b).ticks - suc n in
-        let more = left_of code (port_at g port) b.message.values b.vars means own k n fuel (omega arith) (omega arith) p alone r.vars agree in
+        let more = left_of g code (port_at g port) b.message.values b.vars means own k n fuel (omega arith) (omega arith) p alone r.vars agree in
         omega arith
 
-  first_here : (job : Job) (m : PortMessage) → MayBegin g s r job m → (code : Program) → MeansPort code (port_at g job.task) → UsesVarsOf code (port_at g job.task)
-      → IsTickOf code (port_at g job.task) m.values s.vars 0 (begin_alone code m.values s.vars) r.vars
+  first_here : (job : Job) (m : PortMessage) → MayBegin g s r job m → (code : Program) → MeansPort g code (port_at g job.task) → UsesVarsOf g code (port_at g job.task)
+      → IsTickOf g code (port_at g job.task) m.values s.vars 0 (begin_alone code m.values s.vars) r.vars
   first_here job m may code means own =
       let port = port_at g job.task in
-      let h = handling port m.values s.vars in
-      let w = handling_written port m.values s.vars in
+      let h = handling g port m.values s.vars in
+      let w = handling_written g port m.values s.vars in
       let some = w.some in
-      let agree = agree_at code port m.values s.vars means own 0 (omega arith) (begin_alone code m.values s.vars) refl r.vars (sym is.stands.count)
+      let agree = agree_at g code port m.values s.vars means own 0 (omega arith) (begin_alone code m.values s.vars) refl r.vars (sym is.stands.count)
       (λ v uses. begin.same_here g can.well_formed can.rates trace can.keeps (order_of r.log) s r is.stands job m may v uses
       ∙ ap (λ (xs : List ℤ). value_at xs v) (sym (written_none 0 0 h.ticks h.writes s.vars (omega arith) w.within))) in
-      tick_of code port m.values s.vars means own 0 (omega arith) (begin_alone code m.values s.vars) refl r.vars agree
+      tick_of g code port m.values s.vars means own 0 (omega arith) (begin_alone code m.values s.vars) refl r.vars agree
 
 pub machines_go_on : MachinesGoOn
 machines_go_on = record {

@@ -142,7 +142,7 @@ writes_stay g log n (j ∷ xs) s t h none =
     option_and_then_some {P = writes_below t.handled log n ≡ writes_below s.handled log n} (serial_run g xs) (serial_step g j s) t h
     (λ x step rest.
     let m = stepped g j s x step in
-    let new : Handled = record { item = record { job = j; arrival = m.0.time; cost = (handling (port_of g j) m.0.values s.vars).ticks }; writes = (handling (port_of g j) m.0.values s.vars).writes } in
+    let new : Handled = record { item = record { job = j; arrival = m.0.time; cost = (handling g (port_of g j) m.0.values s.vars).ticks }; writes = (handling g (port_of g j) m.0.values s.vars).writes } in
     writes_stay g log n xs x t rest (λ k has. none k (inr has))
     ∙ ap (λ (y : Serial). writes_below y.handled log n) (sym m.2)
     ∙ writes_below_more s.handled new log n (none j (inl refl)))

@@ -9,7 +9,7 @@ use Rattle.std.proofs.lemmas.Option.{slice_get_past, unwrap_or-slice_get}
 use Rattle.yt_graph.specs.Picture.{GraphTree, PortTree}
 use Rattle.yt_graph.specs.WellFormed.{block_uses_var, IsVarOf, IsFineGroup, IsFinePort, IsWellFormed}
 use Rattle.yt_cost.specs.Code.{port_code}
-use Rattle.yt_cost.specs.CodeVars.{block_vars}
+use Rattle.yt_cost.specs.CodeVars.{port_vars}
 use Rattle.yt_cost.proofs.Lemmas.{owns}
 use Rattle.yt_cost.proofs.Lemmas.{uses_vars}
 use Rattle.yt_graph.specs.Labels.{no_port}
@@ -40,26 +40,26 @@ same_owner : {V : Type 0} (process : V → List ℕ) (o : Option V) (a b : List 
 same_owner process None a b h k = absurd h
 same_owner process (Some v) a b h k = sym h ∙ k
 
-uses_or_not : (g : GraphTree) (p : PortTree) (b : Bool) → block_uses_var p.body ≡ b → IsFinePort g p → (v : ℕ) → Contains (block_vars p.body) v → (block_uses_var p.body ≡ true) × (1 ≤ p.group)
+uses_or_not : (g : GraphTree) (p : PortTree) (b : Bool) → block_uses_var p.body ≡ b → IsFinePort g p → (v : ℕ) → Contains (port_vars g p) v → (block_uses_var p.body ≡ true) × (1 ≤ p.group)
 uses_or_not g p true e fine v h = (e, (subst (IsFineGroup g p) e fine.11).0)
 uses_or_not g p false e fine v h =
     let none : p.group ≡ 0 = subst (IsFineGroup g p) e fine.11 in
-    let same = uses_vars 0 p in
-    let empty : block_vars p.body ≡ [] = sym same ∙ (owns g p (port_code 0 p) fine same).none none in
+    let same = uses_vars g p in
+    let empty : port_vars g p ≡ [] = sym same ∙ (owns g p (port_code g p) fine same).none none in
     absurd (uses_none v (subst (λ xs. Contains xs v) empty h))
 
 module _ (g : GraphTree) (well : IsWellFormed g) where
   pub user : (n v : ℕ) → Uses g n v → IsUser g n v
   user n v h =
       ⊎_elim
-      (λ (e : port_at g n ≡ no_port). absurd (uses_none v (subst (λ (p : PortTree). Contains (block_vars p.body) v) e h)))
+      (λ (e : port_at g n ≡ no_port). absurd (uses_none v (subst (λ (p : PortTree). Contains (port_vars g p) v) e h)))
       (λ (r : (k : ℕ) × (k < length g.ports) × (port_at g n ≡ get_or g.ports k no_port)).
       let fine : IsFinePort g (port_at g n) = subst (IsFinePort g) (sym r.2) (well.each_port r.0 no_port r.1) in
-      let same = uses_vars 0 (port_at g n) in
+      let same = uses_vars g (port_at g n) in
       let is = uses_or_not g (port_at g n) (block_uses_var (port_at g n).body) refl fine v h in
       let own : IsVarOf g (port_at g n).process v =
-      All-contains (IsVarOf g (port_at g n).process) (block_vars (port_at g n).body) v
-      (subst (λ xs. All (IsVarOf g (port_at g n).process) xs) same (owns g (port_at g n) (port_code 0 (port_at g n)) fine same).of_process) h in
+      All-contains (IsVarOf g (port_at g n).process) (port_vars g (port_at g n)) v
+      (subst (λ xs. All (IsVarOf g (port_at g n).process) xs) same (owns g (port_at g n) (port_code g (port_at g n)) fine same).of_process) h in
       let u : IsUser g n v = record { place = r.0; inside = r.1; is = r.2; own = own; uses = is.0; some = is.1 } in
       u)
       (port_cases g n)

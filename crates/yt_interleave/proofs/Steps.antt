@@ -133,7 +133,7 @@ pub begins_keep_serial : BeginsKeepSerial
 begins_keep_serial g trace can s r is job m may =
     let b : ActiveJob = active_job job m s in
     let none = begin.not_done g can.well_formed can.rates trace can.keeps (order_of r.log) s r is.stands job m may in
-    let some = (handling_written (port_at g job.task) m.values s.vars).some in
+    let some = (handling_written g (port_at g job.task) m.values s.vars).some in
     let out : (p : ℕ) (c : ActiveJob) → (p ≡ job.task → ⊥) → put job.task (Some b) r.active p ≡ Some c → r.active p ≡ Some c = λ p c ne at_p. ⊎_elim
     (λ (e : (p ≡ job.task) × (Some b ≡ Some c)). absurd (ne e.0))
     (λ (e : (p ≡ job.task → ⊥) × (r.active p ≡ Some c)). e.1)

@@ -81,8 +81,8 @@ module _ (g : GraphTree) (well : IsWellFormed g) (rates : All (IsWithinRates g) 
     u : IsActiveJob g s r.log r.vars port b
     u = stands.under_way port b at_port
 
-    written : IsWritten (port_at g b.job.task) b.vars h
-    written = handling_written (port_at g b.job.task) b.message.values b.vars
+    written : IsWritten g (port_at g b.job.task) b.vars h
+    written = handling_written g (port_at g b.job.task) b.message.values b.vars
 
     this : done r'.log b.job (length r'.log) ≡ suc n
     this = done_this r.log (Some b.job) b.job refl

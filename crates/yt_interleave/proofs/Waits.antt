@@ -1,5 +1,5 @@
 -- How the messages that wait for their time change.
-use Rattle.std.proofs.Common.{◌≡◌, ℕ, zero, suc, ◌+◌, ◌%◌, ◌<◌, ◌≤◌, cond, eqb, leb, List, [], ◌∷◌, ◌++◌, length, slice_get, get_or, Option, None, Some, refl, sym, ap, subst, ◌∙◌, inl, inr, ⊎_elim, arith, append-nil, eq-eqb, ne_eqb, ◌-◌, ◌*◌, All}
+use Rattle.std.proofs.Common.{◌≡◌, ℕ, zero, suc, ◌+◌, ◌%◌, ◌<◌, ◌≤◌, eqb, leb, List, [], ◌∷◌, ◌++◌, length, slice_get, get_or, Option, None, Some, refl, sym, ap, subst, ◌∙◌, inl, inr, ⊎_elim, arith, append-nil, eq-eqb, ne_eqb, ◌-◌, ◌*◌, All}
 use Rattle.std.specs.Option.{option_map, unwrap_or}
 use Rattle.std.proofs.lemmas.Bool.{cases_eq, cases_lt, cond-true, cond-false, le-leb, lt-leb}
 use Rattle.std.proofs.lemmas.List.{length-map}
@@ -7,7 +7,6 @@ use Rattle.std.proofs.lemmas.Nat.{mul-le}
 use Rattle.std.proofs.Math.Nat.{mod-add-div}
 use Rattle.std.proofs.lemmas.Option.{none-some, slice_get-map, slice_get-get_or, slice_get_past, get_or_from_slice_get, slice_get_within}
 use Rattle.yt_graph.specs.declared.graph.Output.{Output}
-use Rattle.yt_graph.specs.declared.handled.SendItem.{SendItem}
 use Rattle.yt_graph.specs.declared.port.Feed.{Feed}
 use Rattle.yt_graph.specs.declared.port.Feed.TheVariants.{Input, Out}
 use Rattle.yt_graph.specs.Cost.{greatest_sends}
@@ -16,38 +15,22 @@ use Rattle.yt_log.proofs.Lemmas.{next_multiple}
 use Rattle.yt_serial.proofs.Lemmas.{inputs_stay, numbered_far, placed_at, serial_holds, lines_hold, TimesRise, period_some}
 use Rattle.yt_graph.specs.Picture.{GraphTree, PortTree}
 use Rattle.yt_log.specs.Tasks.{Has}
-use Rattle.yt_code.specs.Outbox.{messages_on}
 use Rattle.yt_rates.specs.Rates.{every_of, period_of, gap_of}
 use Rattle.yt_serial.specs.declared.shown.OutLine.{OutLine}
 use Rattle.yt_serial.specs.declared.trace.Message.{Message}
 use Rattle.yt_serial.specs.Beginnings.{order_of}
-use Rattle.yt_serial.specs.PortMessages.{PortMessage, messages_of, spaced}
+use Rattle.yt_serial.specs.PortMessages.{PortMessage, messages_of}
 use Rattle.yt_list.specs.Numbered.{numbered}
 use Rattle.yt_serial.specs.SerialHandling.{Serial, messages_at, brought, from_outside, shown, start}
 use Rattle.yt_interleave.specs.Interleaved.{ActiveJob, RunState, port_at, known_at, passes_of, to_come, output_feeds, with_end}
 use Rattle.yt_serial.specs.Premises.{CanRun}
 use Rattle.yt_interleave.specs.Lines.{messages_to, come_at}
 use Rattle.yt_interleave.specs.Moves.{Interleaves}
-use Rattle.yt_interleave.specs.Waits.{wait_from, timed, MessagesWait}
+use Rattle.yt_interleave.specs.Waits.{wait_from, MessagesWait}
 use Rattle.yt_interleave.proofs.Pieces.{added_at}
 use Rattle.yt_interleave.proofs.Shown.{known_rise}
 use Rattle.yt_interleave.proofs.Timing as timing
 use Rattle.yt_interleave.proofs.Timing.{passes_late}
-
--- what is spaced out is what was sent on the out
-spaced_timed : (out time gap : ℕ) (sends : List SendItem) → spaced out time gap sends ≡ timed time gap (messages_on out sends)
-spaced_timed out time gap [] = refl
-spaced_timed out time gap (s ∷ sends) =
-    ⊎_elim
-    (λ (e : out ≡ s.out).
-    cond-true (eqb out s.out) ((record { time = time; values = s.values }) ∷ spaced out (time + gap) gap sends) (spaced out time gap sends) (eq-eqb out s.out e)
-    ∙ ap (λ (ms : List PortMessage). (record { time = time; values = s.values }) ∷ ms) (spaced_timed out (time + gap) gap sends)
-    ∙ sym (ap (timed time gap) (cond-true (eqb s.out out) (s.values ∷ messages_on out sends) (messages_on out sends) (eq-eqb s.out out (sym e)))))
-    (λ (ne : out ≡ s.out → ⊥).
-    cond-false (eqb out s.out) ((record { time = time; values = s.values }) ∷ spaced out (time + gap) gap sends) (spaced out time gap sends) (ne_eqb out s.out ne)
-    ∙ spaced_timed out time gap sends
-    ∙ sym (ap (timed time gap) (cond-false (eqb s.out out) (s.values ∷ messages_on out sends) (messages_on out sends) (ne_eqb s.out out (λ e. ne (sym e))))))
-    (cases_eq out s.out)
 
 wait_yes : (t : ℕ) (m : PortMessage) (ms : List PortMessage) → t ≤ m.time → wait_from t (m ∷ ms) ≡ m ∷ wait_from t ms
 wait_yes t m ms le = cond-true (leb t m.time) (m ∷ wait_from t ms) (wait_from t ms) (le-leb t m.time le)
@@ -233,7 +216,6 @@ old_come g trace can s r is port n earlier last j p m first out there at at_firs
 
 pub messages_wait : MessagesWait
 messages_wait = record {
-  sent = λ g port number arrival sends out. ap (λ (ms : List PortMessage). cond (eqb (number % every_of port out) 0) ms []) (spaced_timed out (arrival + period_of g port) (gap_of g port out) sends);
   input = λ g trace can s r is port p i there feed. input_at g trace can s r is port p i there feed;
   at_port = λ g trace can s r is b due le port p there. at_port g trace can s r is b due le port p there;
   at_output = λ g trace can s r is b due le n o there. at_output g trace can s r is b due le n o there;

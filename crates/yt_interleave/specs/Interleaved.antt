@@ -11,7 +11,7 @@ use Rattle.yt_log.specs.declared.plan.PlanItem.{PlanItem}
 use Rattle.yt_log.specs.Tasks.{Has}
 use Rattle.yt_log.specs.Ticks.{Ticks, tick, done, IsLawful}
 use Rattle.yt_cost.specs.CodeAlone.{written_before}
-use Rattle.yt_cost.specs.CodeVars.{block_vars}
+use Rattle.yt_cost.specs.CodeVars.{port_vars}
 use Rattle.yt_serial.specs.declared.trace.Message.{Message}
 use Rattle.yt_serial.specs.PortMessages.{PortMessage, passed}
 use Rattle.yt_list.specs.Numbered.{numbered}
@@ -48,7 +48,7 @@ group_at g port = (port_at g port).group
 
 -- a port's handler names a variable
 abbrev pub Uses : GraphTree → ℕ → ℕ → Type 0
-Uses g port v = Contains (block_vars (port_at g port).body) v
+Uses g port v = Contains (port_vars g (port_at g port)) v
 
 -- the value of a variable
 abbrev pub value_at : List ℤ → ℕ → ℤ
@@ -56,7 +56,7 @@ value_at vars v = slice_index_or vars v (pos 0)
 
 -- what the job does from its beginning to its end
 abbrev pub whole_of : GraphTree → ActiveJob → Handling
-whole_of g b = handling (port_at g b.job.task) b.message.values b.vars
+whole_of g b = handling g (port_at g b.job.task) b.message.values b.vars
 
 -- its item in the plan
 abbrev pub item_of : GraphTree → ActiveJob → PlanItem

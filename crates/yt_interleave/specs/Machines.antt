@@ -39,12 +39,12 @@ pub record EndsAlone (p : Progress) (whole : Handling) (t : Tick) : Type 0 where
 
 -- a tick after n ticks alone, under variables that are those of the handling where the code uses them: it is defined, makes the
 -- writes of this tick of the handling, and goes on or ends as the handling does
-pub record IsTickOf (code : Program) (port : PortTree) (msg vars : List ℤ) (n : ℕ) (p : Progress) (now : List ℤ) : Type 0 where
+pub record IsTickOf (g : GraphTree) (code : Program) (port : PortTree) (msg vars : List ℤ) (n : ℕ) (p : Progress) (now : List ℤ) : Type 0 where
   pub tick : Tick
   pub defined : instruction_step code.instrs p.machine now ≡ Some tick
-  pub writes : tick.vars ≡ after_writes (writes_at n (handling port msg vars).writes) now
-  pub goes_on : n + 1 < (handling port msg vars).ticks → GoesOnAlone code msg vars n p tick
-  pub ends : n + 1 ≡ (handling port msg vars).ticks → EndsAlone p (handling port msg vars) tick
+  pub writes : tick.vars ≡ after_writes (writes_at n (handling g port msg vars).writes) now
+  pub goes_on : n + 1 < (handling g port msg vars).ticks → GoesOnAlone code msg vars n p tick
+  pub ends : n + 1 ≡ (handling g port msg vars).ticks → EndsAlone p (handling g port msg vars) tick
 
 -- what is left where a tick is the last or not
 abbrev pub left_more : Stepped → ℕ → ℕ
@@ -65,16 +65,16 @@ ticks_left instrs (suc fuel) m vars = left_by (instruction_step instrs m vars) (
 pub record MachinesGoOn : Type 0 where
   pub ticks :
       (g : GraphTree) (trace : List Message) → CanRun g trace → (s : Serial) (r : RunState) → Interleaves g trace s r →
-      (port : ℕ) (b : ActiveJob) → r.active port ≡ Some b → (code : Program) → MeansPort code (port_at g port) → UsesVarsOf code (port_at g port) →
+      (port : ℕ) (b : ActiveJob) → r.active port ≡ Some b → (code : Program) → MeansPort g code (port_at g port) → UsesVarsOf g code (port_at g port) →
       (p : Progress) → IsAloneAt code b.message.values b.vars (done r.log b.job (length r.log)) p →
-      IsTickOf code (port_at g port) b.message.values b.vars (done r.log b.job (length r.log)) p r.vars
+      IsTickOf g code (port_at g port) b.message.values b.vars (done r.log b.job (length r.log)) p r.vars
   -- in the first tick of a job, at its beginning
   pub first :
       (g : GraphTree) (trace : List Message) → CanRun g trace → (s : Serial) (r : RunState) → Interleaves g trace s r →
-      (job : Job) (m : PortMessage) → MayBegin g s r job m → (code : Program) → MeansPort code (port_at g job.task) → UsesVarsOf code (port_at g job.task) →
-      IsTickOf code (port_at g job.task) m.values s.vars 0 (begin_alone code m.values s.vars) r.vars
+      (job : Job) (m : PortMessage) → MayBegin g s r job m → (code : Program) → MeansPort g code (port_at g job.task) → UsesVarsOf g code (port_at g job.task) →
+      IsTickOf g code (port_at g job.task) m.values s.vars 0 (begin_alone code m.values s.vars) r.vars
   pub left :
       (g : GraphTree) (trace : List Message) → CanRun g trace → (s : Serial) (r : RunState) → Interleaves g trace s r →
-      (port : ℕ) (b : ActiveJob) → r.active port ≡ Some b → (code : Program) → MeansPort code (port_at g port) → UsesVarsOf code (port_at g port) →
+      (port : ℕ) (b : ActiveJob) → r.active port ≡ Some b → (code : Program) → MeansPort g code (port_at g port) → UsesVarsOf g code (port_at g port) →
       (p : Progress) → IsAloneAt code b.message.values b.vars (done r.log b.job (length r.log)) p →
       (fuel : ℕ) → (whole_of g b).ticks ≤ fuel → done r.log b.job (length r.log) + ticks_left code.instrs fuel p.machine r.vars ≡ (whole_of g b).ticks

@@ -6,7 +6,7 @@ use Rattle.yt_log.specs.declared.plan.PlanItem.{PlanItem}
 use Rattle.yt_log.specs.Tasks.{Has}
 use Rattle.yt_log.specs.Ticks.{Ticks}
 use Rattle.yt_exec.specs.StandsFor.{with_cost}
-use Rattle.yt_rates.specs.Rates.{period_of}
+use Rattle.yt_rates.specs.Rates.{within_of}
 use Rattle.yt_serial.specs.declared.shown.OutLine.{OutLine}
 use Rattle.yt_serial.specs.declared.trace.Message.{Message}
 use Rattle.yt_serial.specs.Beginnings.{busy_until, nth_job}
@@ -116,7 +116,7 @@ pub record RunsAreOnTime : Type 0 where
   pub before_deadline :
       (g : GraphTree) (trace : List Message) → IsSchedulable g trace → (s : Serial) (r : RunState) → Interleaves g trace s r → IsOnTime g s r →
       (port n : ℕ) (p : PortTree) (m : PortMessage) → numbered g.ports port ≡ Some p → numbered (known_at r port) n ≡ Some m → (HasEnded s r port n → ⊥) →
-      length r.log < m.time + period_of g p
+      length r.log < m.time + within_of g p
 
 -- a run as far as it has come agrees with a whole run: where the whole run is no shorter it goes on from the run's log, and where it is
 -- shorter the run's log goes on from it with idle ticks; and the variables now are those of the whole run at this tick

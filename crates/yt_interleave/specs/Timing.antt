@@ -8,7 +8,7 @@ use Rattle.yt_order.specs.Sorting.{sort_by}
 use Rattle.yt_log.specs.Plan.{IsLegal}
 use Rattle.yt_log.specs.Tasks.{Has}
 use Rattle.yt_log.specs.Ticks.{Ticks, done}
-use Rattle.yt_rates.specs.Rates.{period_of}
+use Rattle.yt_rates.specs.Rates.{within_of}
 use Rattle.yt_rates.specs.Tables.{tasks_of}
 use Rattle.yt_serial.specs.declared.shown.OutLine.{OutLine}
 use Rattle.yt_serial.specs.Beginnings.{busy_until, nth_job}
@@ -27,7 +27,7 @@ pub record HasEnded (s : Serial) (r : RunState) (port n : ℕ) : Type 0 where
 abbrev pub IsOnTime : GraphTree → Serial → RunState → Type 0
 IsOnTime g s r =
     (port n : ℕ) (p : PortTree) (m : PortMessage) → numbered g.ports port ≡ Some p → numbered (known_at r port) n ≡ Some m →
-    m.time + period_of g p ≤ length r.log → HasEnded s r port n
+    m.time + within_of g p ≤ length r.log → HasEnded s r port n
 
 -- a message of a port has come, and its handling has not begun
 pub record WaitsToBegin (r : RunState) (job : Job) (m : PortMessage) : Type 0 where

@@ -1,14 +1,12 @@
 -- The known messages that wait for their time, as channels keep them: those of each port and of each output apart.
-use Rattle.std.specs.Prelude.{◌≡◌, ℕ, suc, ◌+◌, ◌*◌, ◌%◌, ◌≤◌, ◌==◌, nat_le, ℤ, List, [], ◌∷◌, ◌++◌, length, Some, if◌then◌else◌, ◌<◌}
+use Rattle.std.specs.Prelude.{◌≡◌, ℕ, suc, ◌+◌, ◌*◌, ◌%◌, ◌≤◌, nat_le, List, [], ◌∷◌, ◌++◌, length, Some, if◌then◌else◌, ◌<◌}
 use Rattle.yt_graph.specs.declared.graph.Output.{Output}
-use Rattle.yt_graph.specs.declared.handled.SendItem.{SendItem}
 use Rattle.yt_graph.specs.declared.port.Feed.TheVariants.{Input, Out}
 use Rattle.yt_graph.specs.Cost.{greatest_sends}
 use Rattle.yt_graph.specs.Picture.{GraphTree, PortTree}
-use Rattle.yt_code.specs.Outbox.{messages_on}
-use Rattle.yt_rates.specs.Rates.{every_of, period_of, gap_of}
+use Rattle.yt_rates.specs.Rates.{every_of, within_of, gap_of}
 use Rattle.yt_serial.specs.declared.trace.Message.{Message}
-use Rattle.yt_serial.specs.PortMessages.{PortMessage, messages_of, passed}
+use Rattle.yt_serial.specs.PortMessages.{PortMessage, messages_of}
 use Rattle.yt_list.specs.Numbered.{numbered}
 use Rattle.yt_serial.specs.SerialHandling.{Serial, messages_at, brought}
 use Rattle.yt_interleave.specs.Interleaved.{ActiveJob, RunState, port_at, known_at, passes_of, with_end}
@@ -21,17 +19,8 @@ abbrev pub wait_from : ℕ → List PortMessage → List PortMessage
 wait_from due [] = []
 wait_from due (m ∷ messages) = if nat_le due m.time then m ∷ wait_from due messages else wait_from due messages
 
--- these values as messages, the first at a time, each later one a gap after the one before
-abbrev pub timed : ℕ → ℕ → List (List ℤ) → List PortMessage
-timed time gap [] = []
-timed time gap (values ∷ rest) = (record { time = time; values = values }) ∷ timed (time + gap) gap rest
-
 -- how the messages that wait change
 pub record MessagesWait : Type 0 where
-  -- what a job passes on through an out is what it sent there, where its number is a multiple of the out's `every`
-  pub sent :
-      (g : GraphTree) (port : PortTree) (number arrival : ℕ) (sends : List SendItem) (out : ℕ) →
-      passed g port number arrival sends out ≡ (if number % every_of port out == 0 then timed (arrival + period_of g port) (gap_of g port out) (messages_on out sends) else [])
   -- a port that an input feeds knows the trace's messages, and no others
   pub input :
       (g : GraphTree) (trace : List Message) → CanRun g trace → (s : Serial) (r : RunState) → Interleaves g trace s r →
@@ -39,11 +28,11 @@ pub record MessagesWait : Type 0 where
   -- where a job ends before its deadline, its messages wait behind those that waited, at each port and at each output
   pub at_port :
       (g : GraphTree) (trace : List Message) → CanRun g trace → (s : Serial) (r : RunState) → Interleaves g trace s r →
-      (b : ActiveJob) (due : ℕ) → due ≤ b.message.time + period_of g (port_at g b.job.task) → (port : ℕ) (p : PortTree) → numbered g.ports port ≡ Some p →
+      (b : ActiveJob) (due : ℕ) → due ≤ b.message.time + within_of g (port_at g b.job.task) → (port : ℕ) (p : PortTree) → numbered g.ports port ≡ Some p →
       wait_from due (known_at (with_end g b r) port) ≡ wait_from due (known_at r port) ++ brought b.job.task (passes_of g b) p.feed
   pub at_output :
       (g : GraphTree) (trace : List Message) → CanRun g trace → (s : Serial) (r : RunState) → Interleaves g trace s r →
-      (b : ActiveJob) (due : ℕ) → due ≤ b.message.time + period_of g (port_at g b.job.task) → (n : ℕ) (o : Output) → numbered g.outputs n ≡ Some o →
+      (b : ActiveJob) (due : ℕ) → due ≤ b.message.time + within_of g (port_at g b.job.task) → (n : ℕ) (o : Output) → numbered g.outputs n ≡ Some o →
       wait_from due (messages_to (with_end g b r).outputs n) ≡ wait_from due (messages_to r.outputs n) ++ brought b.job.task (passes_of g b) (Out o.port o.out)
   -- of the messages that wait from a tick on, those of the tick come first
   pub port_comes :
@@ -63,4 +52,4 @@ pub record MessagesWait : Type 0 where
       (port n earlier last j : ℕ) (p : PortTree) (m first : PortMessage) (out : ℕ) → numbered g.ports port ≡ Some p →
       numbered (messages_at s port) n ≡ Some m → numbered (messages_at s port) earlier ≡ Some first → 1 ≤ out → out ≤ length p.outs →
       earlier % every_of p out ≡ 0 → last % every_of p out ≡ 0 → earlier < last → last < n → j < greatest_sends p out →
-      first.time + period_of g p + j * gap_of g p out < m.time
+      first.time + within_of g p + j * gap_of g p out < m.time

@@ -7,7 +7,7 @@ use Rattle.yt_log.specs.declared.job.Segment.{Segment}
 use Rattle.yt_log.specs.Plan.{same_job}
 use Rattle.yt_log.specs.Ticks.{Ticks, tick, names, done}
 use Rattle.yt_log.specs.Segments.{AreInOrder, job_at, segments_of}
-use Rattle.yt_log.specs.Counts.{share, ticks_below, AreOrdered, IsNoLater, no_segment, segment_at}
+use Rattle.yt_log.specs.Inside.Counts.{share, ticks_below, AreOrdered, IsNoLater, no_segment, segment_at}
 use Rattle.yt_log.proofs.Jobs.{same_job_true}
 use Rattle.yt_log.proofs.Ticks.{done-zero, done-suc}
 use Rattle.yt_log.proofs.SegmentLists.{job_at_here, job_at_before, job_at_after, job_at-nil, job_at-past}

@@ -16,9 +16,9 @@ use Rattle.yt_log.specs.Ticks.{Ticks, tick, done, IsWaiting, IsActive}
 use Rattle.yt_log.specs.EdfDdm.{choice, IsEdfDdm}
 use Rattle.yt_log.specs.Segments.{segments_of}
 use Rattle.yt_log.specs.Judging.{JobWaits, NamesUnwaiting, IdlesWhileWaiting, SharesResource, Breaks, IsFirstBroken, IsUnbroken}
-use Rattle.yt_log.specs.Heads.{item_at, item_of, no_head, head_at, IsHead, AreHeads, IsLeastHead, Leads, ran, Starts, KeepsResource}
-use Rattle.yt_log.specs.Following.{Follows}
-use Rattle.yt_log.specs.Counts.{ticks_below}
+use Rattle.yt_log.specs.Inside.Heads.{item_at, item_of, no_head, head_at, IsHead, AreHeads, IsLeastHead, Leads, ran, Starts, KeepsResource}
+use Rattle.yt_log.specs.Inside.Following.{Follows}
+use Rattle.yt_log.specs.Inside.Counts.{ticks_below}
 use Rattle.yt_log.proofs.Jobs.{same_job_refl, same_job_true}
 use Rattle.yt_log.proofs.Ticks.{done_yes, done_no, done_grows, tick_or_not}
 use Rattle.yt_log.proofs.Plans.{good_item}

@@ -43,7 +43,7 @@ due_within_is task t = refl
 
 pub jobs_due_is : (task : Task) (t : ℕ) → jobs_due task t ≡ due_within task t
 unfolding due_within
-jobs_due_is task t = ap (λ (n : ℕ). n / task.period) (omega arith)
+jobs_due_is task t = refl
 
 -- the demand of t ticks
 unfoldable pub demand : List Task → ℕ → ℕ
@@ -65,9 +65,6 @@ unfolding work
 work_is [] h = refl
 work_is (task ∷ tasks) h = sum_by-cons (λ (x : Task). x.cost * (h / x.period)) task tasks ∙ ap (λ (a : ℕ). task.cost * (h / task.period) + a) (work_is tasks h)
 
--- the hyperperiod
-pub hyperperiod_some : (tasks : List Task) → IsTaskSet tasks → 1 ≤ hyperperiod tasks
-hyperperiod_some tasks set = (hyperperiod_is tasks set).positive
-
+-- each period divides the hyperperiod
 pub divides : (tasks : List Task) → IsTaskSet tasks → (task : Task) → Has tasks task → task.period ∣ hyperperiod tasks
 divides tasks set = has_all (λ (task : Task). task.period ∣ hyperperiod tasks) tasks (hyperperiod_is tasks set).common

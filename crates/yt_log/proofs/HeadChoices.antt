@@ -10,7 +10,7 @@ use Rattle.yt_log.specs.Plan.{deadline_of, IsLegal}
 use Rattle.yt_log.specs.Ticks.{Ticks, done, IsWaiting}
 use Rattle.yt_log.specs.EdfDdm.{current_deadline, rank, choice}
 use Rattle.yt_order.specs.Words.{precedes}
-use Rattle.yt_log.specs.Heads.{item_at, item_of, TellsItem, IsHead, AreHeads, AreUnfinished, Waits, IsLeastHead, Leads, head_rank}
+use Rattle.yt_log.specs.Inside.Heads.{item_at, item_of, TellsItem, IsHead, AreHeads, AreUnfinished, Waits, IsLeastHead, Leads, head_rank}
 use Rattle.yt_log.proofs.Plans.{good_item}
 use Rattle.yt_log.proofs.Choices.{current_fresh, current_le}
 use Rattle.yt_order.proofs.Lemmas.{precedes_less, precedes_either, precedes_one_way}

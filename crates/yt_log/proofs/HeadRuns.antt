@@ -10,7 +10,7 @@ use Rattle.yt_log.specs.Plan.{its_task, IsLegal}
 use Rattle.yt_log.specs.Ticks.{Ticks, tick}
 use Rattle.yt_log.specs.EdfDdm.{lowered, choice}
 use Rattle.yt_order.specs.Words.{precedes}
-use Rattle.yt_log.specs.Heads.{item_at, item_of, IsHead, AreHeads, AreUnfinished, Waits, IsLeastHead, head_rank, ran}
+use Rattle.yt_log.specs.Inside.Heads.{item_at, item_of, IsHead, AreHeads, AreUnfinished, Waits, IsLeastHead, head_rank, ran}
 use Rattle.yt_order.proofs.Lemmas.{precedes_less, precedes_same, precedes_parts, precedes_one_way}
 use Rattle.yt_log.proofs.HeadChoices.{none_chosen, head_chosen}
 use Rattle.yt_log.proofs.HeadSteps.{head_stays, head_runs}

@@ -9,7 +9,7 @@ use Rattle.yt_log.specs.declared.judge.heads.Head.{Head}
 use Rattle.yt_log.specs.Plan.{its_task, deadline_of, IsLegal}
 use Rattle.yt_log.specs.Ticks.{Ticks, tick, done}
 use Rattle.yt_log.specs.EdfDdm.{lowered, current_deadline}
-use Rattle.yt_log.specs.Heads.{item_at, item_of, TellsItem, IsHead, ran, Starts}
+use Rattle.yt_log.specs.Inside.Heads.{item_at, item_of, TellsItem, IsHead, ran, Starts}
 use Rattle.yt_log.proofs.Ticks.{done-zero, done_yes, done_no, done_grows, first-suc_zero, first-suc}
 use Rattle.yt_log.proofs.Choices.{current_fresh, current_begun}
 use Rattle.yt_log.proofs.Places.{one_place, task_read}

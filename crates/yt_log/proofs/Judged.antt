@@ -13,8 +13,9 @@ use Rattle.yt_log.specs.Ticks.{Ticks, tick, done, IsMiss, IsLawful, KeepsDeadlin
 use Rattle.yt_order.specs.Words.{precedes}
 use Rattle.yt_log.specs.Segments.{segments_of}
 use Rattle.yt_log.specs.Judging.{miss_rank, IsFirstMiss}
-use Rattle.yt_log.specs.Heads.{item_at}
-use Rattle.yt_log.specs.Counts.{ticks_below, AreOrdered, IsNoLater, no_segment, segment_at, TellsMiss, Judges, Passes, rank_of, sooner, IsFirstBelow, AreJudged}
+use Rattle.yt_log.specs.Inside.Heads.{item_at}
+use Rattle.yt_log.specs.EdfDdm.{sooner}
+use Rattle.yt_log.specs.Inside.Counts.{ticks_below, AreOrdered, IsNoLater, no_segment, segment_at, TellsMiss, Judges, Passes, rank_of, sooner_miss, IsFirstBelow, AreJudged}
 use Rattle.yt_log.proofs.Ticks.{done-zero, done_yes, done_no, tick_or_not}
 use Rattle.yt_log.proofs.Plans.{good_item, one_item}
 use Rattle.yt_order.proofs.Lemmas.{precedes_either, precedes_one_way}
@@ -141,15 +142,15 @@ module _ (tasks : List Task) (plan : List PlanItem) (log : Ticks) (h : ℕ) wher
           subst P e (subst Q (sym r) (false_from_ne_true _ (λ t. precedes_one_way (rank_of miss) (rank_of miss) t t)))
 
   -- one that misses comes before the first so far, or after it
-  miss_at : (n : ℕ) (first miss : Miss) → IsFirstBelow tasks plan log h n first → TellsMiss tasks (segments_of log) h (item_at plan n) miss → AreJudged tasks plan log h (n + 1) (sooner (Some first) (Some miss))
-  unfolding sooner
+  miss_at : (n : ℕ) (first miss : Miss) → IsFirstBelow tasks plan log h n first → TellsMiss tasks (segments_of log) h (item_at plan n) miss → AreJudged tasks plan log h (n + 1) (sooner_miss (Some first) (Some miss))
+  unfolding sooner sooner_miss
   miss_at n first miss judged told =
       let r = rank_told tasks (item_at plan n) miss told.due told.job in
       let b = judged.below in
       let P : Option Miss → Type 0 = λ m. AreJudged tasks plan log h (n + 1) m in
       ⊎_elim
       (λ (yes : precedes (rank_of miss) (rank_of first) ≡ true).
-      subst P (sym (cond-true (precedes (rank_of miss) (rank_of first)) (Some miss) (Some first) yes)) (record {
+      subst P (sym (ap (λ (m : Miss). Some m) (cond-true (precedes (rank_of miss) (rank_of first)) miss first yes))) (record {
         place = n;
         below = omega arith;
         short = short_of (item_at plan n) miss told;
@@ -170,7 +171,7 @@ module _ (tasks : List Task) (plan : List PlanItem) (log : Ticks) (h : ℕ) wher
             (cases_lt k n));
       }))
       (λ (no : precedes (rank_of miss) (rank_of first) ≡ false).
-      subst P (sym (cond-false (precedes (rank_of miss) (rank_of first)) (Some miss) (Some first) no)) (record {
+      subst P (sym (ap (λ (m : Miss). Some m) (cond-false (precedes (rank_of miss) (rank_of first)) miss first no))) (record {
         place = judged.place;
         below = omega arith;
         short = judged.short;
@@ -183,14 +184,14 @@ module _ (tasks : List Task) (plan : List PlanItem) (log : Ticks) (h : ℕ) wher
       }))
       (cases_Bool (precedes (rank_of miss) (rank_of first)))
 
-  sooner-none : (first : Option Miss) → sooner first None ≡ first
-  unfolding sooner
+  sooner-none : (first : Option Miss) → sooner_miss first None ≡ first
+  unfolding sooner sooner_miss
   sooner-none None = refl
   sooner-none (Some miss) = refl
 
   -- one item more
-  pub judged_more : (n : ℕ) (first result : Option Miss) → AreJudged tasks plan log h n first → Judges tasks (segments_of log) h (item_at plan n) result → AreJudged tasks plan log h (n + 1) (sooner first result)
-  unfolding sooner
+  pub judged_more : (n : ℕ) (first result : Option Miss) → AreJudged tasks plan log h n first → Judges tasks (segments_of log) h (item_at plan n) result → AreJudged tasks plan log h (n + 1) (sooner_miss first result)
+  unfolding sooner sooner_miss
   judged_more n first None judged none = let P : Option Miss → Type 0 = λ m. AreJudged tasks plan log h (n + 1) m in subst P (sym (sooner-none first)) (judged_none n first judged none)
   judged_more n None (Some miss) judged told = first_miss_at n miss judged told
   judged_more n (Some first) (Some miss) judged told = miss_at n first miss judged told

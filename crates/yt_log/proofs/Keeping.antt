@@ -3,12 +3,12 @@ use Rattle.std.proofs.Common.{◌≡◌, ℕ, ◌-◌, ◌<◌, ◌≤◌, List,
 use Rattle.std.specs.Prelude.{IsSomeAnd}
 use Rattle.std.proofs.lemmas.Bool.{cases_lt}
 use Rattle.yt_set.specs.declared.task.Task.{Task}
-use Rattle.yt_set.specs.Tasks.{IsTaskSet, FitsLoad, FitsInterval, LeavesRoom, need_of}
+use Rattle.yt_set.specs.Tasks.{FitsInterval, LeavesRoom, need_of}
 use Rattle.yt_log.specs.declared.plan.PlanItem.{PlanItem}
 use Rattle.yt_log.specs.Plan.{deadline_of, IsLegal}
 use Rattle.yt_log.specs.Ticks.{Ticks, done, KeepsDeadlines}
 use Rattle.yt_log.specs.EdfDdm.{IsEdfDdm}
-use Rattle.yt_log.specs.Laws.{FitsKeeps, FreeFitsKeeps}
+use Rattle.yt_log.specs.Laws.{FitsDemand, DemandKeeps, FitsKeeps, FreeFitsKeeps}
 use Rattle.yt_log.proofs.Forms.{AreUsable, usable, has_all, demand, demand_is}
 use Rattle.yt_log.proofs.Floors.{BlockingFits, floor_some}
 use Rattle.yt_log.proofs.Periods.{every_demand}
@@ -26,8 +26,8 @@ keeps tasks set fits blocking plan legal log rule item is due =
     (λ (l : item.cost ≤ done log item.job t). omega arith)
     (cases_lt (done log item.job t) item.cost)
 
-demands : (tasks : List Task) → IsTaskSet tasks → FitsLoad tasks → (t : ℕ) → 1 ≤ t → demand tasks t ≤ t
-demands tasks set loads t some = let a = every_demand tasks set loads t in let b = demand_is tasks t in omega arith
+demands : (tasks : List Task) → FitsDemand tasks → (t : ℕ) → 1 ≤ t → demand tasks t ≤ t
+demands tasks fits t some = let a = fits t in let b = demand_is tasks t in omega arith
 
 -- the interval condition, of demands and floors
 rooms : (tasks : List Task) → FitsInterval tasks → BlockingFits tasks
@@ -40,11 +40,14 @@ rooms tasks intervals = λ task is held span above below.
     (λ (l : need_of tasks task span ≤ span). omega arith)
     (cases_lt span (need_of tasks task span))
 
+pub demand_keeps : DemandKeeps
+demand_keeps tasks set fits intervals = keeps tasks (usable tasks set) (demands tasks fits) (rooms tasks intervals)
+
 pub fits_keeps : FitsKeeps
-fits_keeps tasks set fits = keeps tasks (usable tasks set) (demands tasks set fits.loads) (rooms tasks fits.intervals)
+fits_keeps tasks set fits = demand_keeps tasks set (every_demand tasks set (λ k d lt. refl) fits.loads) fits.intervals
 
 pub free_fits_keeps : FreeFitsKeeps
-free_fits_keeps tasks set free loads =
-    keeps tasks (usable tasks set) (demands tasks set loads) (λ task is held span above below.
+free_fits_keeps tasks set free fits =
+    keeps tasks (usable tasks set) (demands tasks fits) (λ task is held span above below.
     let z = has_all (λ (x : Task). x.resource ≡ 0) tasks free task is in
     absurd (omega arith))

@@ -8,7 +8,8 @@ use Rattle.yt_log.specs.declared.plan.PlanItem.{PlanItem}
 use Rattle.yt_log.specs.declared.last_jobs.LastJob.{LastJob}
 use Rattle.yt_log.specs.Tasks.{Has, no_task, task_of}
 use Rattle.yt_log.specs.Plan.{jobs_of}
-use Rattle.yt_log.specs.LastJobs.{last_of, last_job, AreLast}
+use Rattle.yt_log.specs.LastJobs.{last_of, last_job}
+use Rattle.yt_log.specs.Inside.LastJobs.{AreLast}
 use Rattle.yt_log.proofs.Plans.{jobs_of-cons}
 use Rattle.yt_log.proofs.Demands.{task_of-suc}
 

@@ -10,7 +10,7 @@ pub use Rattle.yt_log.proofs.Forms.{has_all}
 pub use Rattle.yt_log.proofs.Growing.{grows_online}
 pub use Rattle.yt_log.proofs.Inserts.{IsLegalFrom, legal_insert, legal_whole}
 pub use Rattle.yt_log.proofs.Jobs.{cases_job, same_job_other, same_job_refl, same_job_true}
-pub use Rattle.yt_log.proofs.Keeping.{fits_keeps}
+pub use Rattle.yt_log.proofs.Keeping.{demand_keeps, fits_keeps}
 pub use Rattle.yt_log.proofs.Leasts.{rule_is_least}
 pub use Rattle.yt_log.proofs.Made.{Agree, agree_less, choice_same, done_same, first_same, rule_is_determined, rule_makes_logs}
 pub use Rattle.yt_log.proofs.Members.{has_append, has_insert, has_last, has_left, has_right, has_sorted, sorted_has}

@@ -34,6 +34,7 @@ mod Periods
 mod Places
 mod PlanFaults
 mod PlanJudging
+mod PlanLines
 mod PlanOrder
 mod PlanReads
 mod Plans

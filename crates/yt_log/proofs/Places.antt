@@ -8,7 +8,7 @@ use Rattle.yt_log.specs.declared.job.Job.{Job}
 use Rattle.yt_log.specs.declared.plan.PlanItem.{PlanItem}
 use Rattle.yt_log.specs.Tasks.{Has, no_task, task_of}
 use Rattle.yt_log.specs.Plan.{its_task, deadline_of, IsLegalAfter, IsLegal}
-use Rattle.yt_log.specs.Heads.{item_at}
+use Rattle.yt_log.specs.Inside.Heads.{item_at}
 use Rattle.yt_log.proofs.Forms.{usable}
 use Rattle.yt_log.proofs.Demands.{deadline_is, has_item, task_of-suc}
 use Rattle.yt_log.proofs.Plans.{AreCounted, counted_more, numbered_after, apart_after}
@@ -95,5 +95,5 @@ one_place tasks plan legal k m hk hm e =
     (cases_order k m)
 
 -- the deadline, from the task that a set has at a number
-pub deadline_read : (tasks : List Task) (item : PlanItem) (task : Task) → 1 ≤ item.job.task → slice_get tasks (item.job.task - 1) ≡ Some task → deadline_of tasks item ≡ item.arrival + task.period
+pub deadline_read : (tasks : List Task) (item : PlanItem) (task : Task) → 1 ≤ item.job.task → slice_get tasks (item.job.task - 1) ≡ Some task → deadline_of tasks item ≡ item.arrival + within task
 deadline_read tasks item task from at = deadline_is tasks item ∙ ap (λ (τ : Task). item.arrival + within τ) (task_read tasks item.job.task task from at)

@@ -7,7 +7,7 @@ use Rattle.yt_log.specs.declared.item_fault.ItemFault.TheVariants as item
 use Rattle.yt_log.specs.declared.plan.PlanItem.{PlanItem}
 use Rattle.yt_log.specs.declared.read.PlanFault.{PlanFault}
 use Rattle.yt_log.specs.declared.read.PlanFault.TheVariants.{Form, Unknown, Cost, Late, Order, Soon, Many, Memory}
-use Rattle.yt_log.specs.PlanReading.{IsFaultOf}
+use Rattle.yt_log.specs.PlanFaults.{in_line, IsFaultOf}
 use Rattle.yt_log.specs.PlanText.{plan_of}
 
 -- a text that says a plan has no fault but want of memory
@@ -25,14 +25,27 @@ no_plan_and_fault set text items Memory is h told = told refl
 abbrev pub HasFault : NamedTasks → List ℕ → Type 0
 HasFault set text = (fault : PlanFault) × IsFaultOf set text fault × (fault ≡ Memory → ⊥)
 
+-- the fault of a line at fault
+pub fault_in : (set : NamedTasks) (text : List ℕ) (line : ℕ) (first : ItemFault) → plan_of set text ≡ Err (line, first) → IsFaultOf set text (in_line line first)
+fault_in set text line item.Form is = (line, item.Form, refl, is)
+fault_in set text line item.Unknown is = (line, item.Unknown, refl, is)
+fault_in set text line item.Cost is = (line, item.Cost, refl, is)
+fault_in set text line item.Late is = (line, item.Late, refl, is)
+fault_in set text line item.Order is = (line, item.Order, refl, is)
+fault_in set text line (item.Soon least) is = (line, item.Soon least, refl, is)
+fault_in set text line item.Many is = (line, item.Many, refl, is)
+
+told_of_line : (line : ℕ) (first : ItemFault) → in_line line first ≡ Memory → ⊥
+told_of_line line item.Form e = cc
+told_of_line line item.Unknown e = cc
+told_of_line line item.Cost e = cc
+told_of_line line item.Late e = cc
+told_of_line line item.Order e = cc
+told_of_line line (item.Soon least) e = cc
+told_of_line line item.Many e = cc
+
 fault_of_line : (set : NamedTasks) (text : List ℕ) (line : ℕ) (first : ItemFault) → plan_of set text ≡ Err (line, first) → HasFault set text
-fault_of_line set text line item.Form is = (Form line, (line, item.Form, refl, is), λ e. cc)
-fault_of_line set text line item.Unknown is = (Unknown line, (line, item.Unknown, refl, is), λ e. cc)
-fault_of_line set text line item.Cost is = (Cost line, (line, item.Cost, refl, is), λ e. cc)
-fault_of_line set text line item.Late is = (Late line, (line, item.Late, refl, is), λ e. cc)
-fault_of_line set text line item.Order is = (Order line, (line, item.Order, refl, is), λ e. cc)
-fault_of_line set text line (item.Soon least) is = (Soon line least, (line, item.Soon least, refl, is), λ e. cc)
-fault_of_line set text line item.Many is = (Many line, (line, item.Many, refl, is), λ e. cc)
+fault_of_line set text line first is = (in_line line first, fault_in set text line first is, told_of_line line first)
 
 -- each text says a plan, or it has such a fault
 pub plan_or_fault : (set : NamedTasks) (text : List ℕ) → ((items : List PlanItem) × (plan_of set text ≡ Ok items)) ⊎ HasFault set text

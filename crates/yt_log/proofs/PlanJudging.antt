@@ -10,7 +10,8 @@ use Rattle.yt_log.specs.declared.plan.PlanItem.{PlanItem}
 use Rattle.yt_log.specs.declared.last_jobs.LastJob.{LastJob}
 use Rattle.yt_log.specs.Tasks.{Has}
 use Rattle.yt_log.specs.Plan.{its_task, jobs_of, IsNext, IsLegalAfter, IsLegalPlan, ArriveFrom}
-use Rattle.yt_log.specs.LastJobs.{last_of, last_job, AreLast, may_follow, may_come}
+use Rattle.yt_log.specs.LastJobs.{last_of, last_job}
+use Rattle.yt_log.specs.Inside.LastJobs.{AreLast, may_follow, may_come}
 use Rattle.yt_log.proofs.LastItems.{task_at, last_item, IsNewest, newest_more, counted_item}
 
 or_true : (x y : Bool) → (x || y) ≡ true → (x ≡ true) ⊎ (y ≡ true)

@@ -13,11 +13,13 @@ use Rattle.yt_log.specs.declared.item_fault.ItemFault.{ItemFault}
 use Rattle.yt_log.specs.declared.item_fault.ItemFault.TheVariants.{Cost, Late}
 use Rattle.yt_log.specs.Tasks.{Has, task_of}
 use Rattle.yt_log.specs.Plan.{jobs_of, IsNext, IsLegalAfter, IsLegal, IsLegalPlan, last_from, last_arrival}
-use Rattle.yt_log.specs.LastJobs.{last_of, last_job, least_arrival, AreLast, may_follow, may_come}
+use Rattle.yt_log.specs.LastJobs.{last_of, last_job, least_arrival}
+use Rattle.yt_log.specs.Inside.LastJobs.{AreLast, may_follow, may_come}
 use Rattle.yt_base.specs.Digits.{is_digits, value_of}
 use Rattle.yt_set.specs.NamedTasks.{NamedTasks}
-use Rattle.yt_log.specs.PlanText.{ItemTexts, item_texts, task_named, item_fault, unless, judged_item, judged_named, judged_texts, judged}
-use Rattle.yt_log.specs.PlanReading.{IsFine, capped, PlanSoFar}
+use Rattle.yt_table.specs.Tables.{first_of}
+use Rattle.yt_log.specs.PlanText.{ItemTexts, item_texts, item_fault, unless, judged_item, judged_named, judged_texts, judged}
+use Rattle.yt_log.specs.Inside.PlanReading.{IsFine, capped, PlanSoFar}
 use Rattle.yt_log.proofs.Forms.{has_all}
 use Rattle.yt_log.proofs.Demands.{has_task}
 use Rattle.yt_log.proofs.Plans.{jobs_of-cons}
@@ -218,7 +220,7 @@ item_last tasks plan jobs task last set low high are got =
 
 -- a line's fields are judged as its task's next job
 pub judged_as : (set : NamedTasks) (plan : List PlanItem) (fields : List (List ℕ)) (texts : ItemTexts) (task arrival cost : ℕ) → IsTaskSet set.tasks → 1 ≤ task → task ≤ length set.tasks →
-    item_texts fields ≡ Some texts → is_digits texts.arrival ≡ true → is_digits texts.cost ≡ true → Some task ≡ task_named set.labels texts.task → arrival ≡ capped texts.arrival → cost ≡ capped texts.cost →
+    item_texts fields ≡ Some texts → is_digits texts.arrival ≡ true → is_digits texts.cost ≡ true → Some task ≡ first_of texts.task 1 set.labels → arrival ≡ capped texts.arrival → cost ≡ capped texts.cost →
     judged set plan fields ≡ judged_item set.tasks plan task arrival cost
 judged_as set plan fields texts task arrival cost range low high is first last named a c =
     let its = task_in_range set.tasks task range low high in

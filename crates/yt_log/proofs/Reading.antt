@@ -4,8 +4,8 @@ use Rattle.std.proofs.lemmas.List.{drop_more, drop_all}
 use Rattle.yt_log.specs.declared.job.Segment.{Segment}
 use Rattle.yt_log.specs.Ticks.{Ticks}
 use Rattle.yt_log.specs.Segments.{AreInOrder, job_at, segments_of}
-use Rattle.yt_log.specs.Counts.{no_segment, segment_at}
-use Rattle.yt_log.specs.Following.{IsStretch, Reads}
+use Rattle.yt_log.specs.Inside.Counts.{no_segment, segment_at}
+use Rattle.yt_log.specs.Inside.Following.{IsStretch, Reads}
 use Rattle.yt_log.proofs.SegmentLists.{job_at_here, job_at_before, job_at_after, job_at-nil, le_of_in_order, in_order_lower}
 use Rattle.yt_log.proofs.SegmentLemmas.{segments_below-in_order}
 use Rattle.yt_log.proofs.Counting.{job_at-segments_of}

@@ -9,7 +9,7 @@ use Rattle.yt_log.specs.Tasks.{Has}
 use Rattle.yt_log.specs.Plan.{its_task, deadline_of}
 use Rattle.yt_log.specs.Ticks.{Ticks, tick, done, first_tick, IsWaiting}
 
--- the deadline of a job whose first tick is known, by the floor of its resource: no later than that of any sharer that arrives after that tick; its own where it has no resource
+-- the deadline of a job whose first tick is known, by the deadline floor of its resource: no later than that of any sharer that arrives after that tick; its own where it has no resource
 unfoldable pub lowered : ℕ → ℕ → Option ℕ → ℕ
 lowered deadline first None = deadline
 lowered deadline first (Some floor) = min deadline (first + 1 + floor)
@@ -30,10 +30,10 @@ rank tasks log t item =
 unfoldable pub waits : Ticks → ℕ → PlanItem → Bool
 waits log t item = nat_le item.arrival t && nat_lt (done log item.job t) item.cost
 
--- of two items the one that comes first, the former where neither does
-unfoldable pub sooner : (PlanItem → List ℕ) → PlanItem → Option PlanItem → PlanItem
-sooner key item None = item
-sooner key item (Some other) = if precedes (key other) (key item) then other else item
+-- of two values the one that comes first by its key, the former where neither does
+unfoldable pub sooner : {X : Type 0} → (X → List ℕ) → X → Option X → X
+sooner key x None = x
+sooner key x (Some other) = if precedes (key other) (key x) then other else x
 
 -- of the items that pass, the one that comes first
 unfoldable pub least : (PlanItem → List ℕ) → (PlanItem → Bool) → List PlanItem → Option PlanItem

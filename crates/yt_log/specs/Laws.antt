@@ -2,7 +2,7 @@
 use Rattle.std.specs.Prelude.{◌≡◌, ◌⊎◌, ℕ, ◌+◌, ◌-◌, ◌<◌, ◌≤◌, List, [], ◌∷◌, ◌++◌, Some, None, length}
 use Rattle.std.specs.List.{All}
 use Rattle.yt_set.specs.declared.task.Task.{Task}
-use Rattle.yt_set.specs.Tasks.{IsTaskSet, FitsLoad, Fits, within, floor_of, demand_bound, hyperperiod, load}
+use Rattle.yt_set.specs.Tasks.{IsTaskSet, FitsLoad, FitsInterval, Fits, within, floor_of, demand_bound, hyperperiod, load}
 use Rattle.yt_log.specs.declared.plan.PlanItem.{PlanItem}
 use Rattle.yt_log.specs.Tasks.{Has, task_of}
 use Rattle.yt_log.specs.Plan.{IsNext, IsLegal}
@@ -10,9 +10,13 @@ use Rattle.yt_log.specs.Ticks.{Ticks, done, IsWaiting, IsLawful, IsWorkConservin
 use Rattle.yt_log.specs.EdfDdm.{ComesFirst, choice, IsEdfDdm, edf_ddm}
 use Rattle.yt_log.specs.Patterns.{MustMiss, pattern_plan, all_tasks, blocker}
 
--- where the load fits, no span asks for more ticks than it has
+-- no span asks for more ticks than it has
+abbrev pub FitsDemand : List Task → Type 0
+FitsDemand tasks = (t : ℕ) → demand_bound tasks t ≤ t
+
+-- so it is where the load fits and each job is due at its period's end
 abbrev pub EveryDemandFits : Type 0
-EveryDemandFits = (tasks : List Task) → IsTaskSet tasks → FitsLoad tasks → (t : ℕ) → demand_bound tasks t ≤ t
+EveryDemandFits = (tasks : List Task) → IsTaskSet tasks → All (λ task. within task ≡ task.period) tasks → FitsLoad tasks → FitsDemand tasks
 
 -- where more is due than there are ticks, all tasks from zero on must miss a deadline by then; so they must by the hyperperiod where the load doesn't fit
 pub record OverloadsMiss : Type 0 where
@@ -40,13 +44,17 @@ RuleIsSafe = (tasks : List Task) (plan : List PlanItem) → IsLegal tasks plan �
 abbrev pub RuleKeeps : List Task → Type 0
 RuleKeeps tasks = (plan : List PlanItem) → IsLegal tasks plan → (log : Ticks) → IsEdfDdm tasks plan log → KeepsDeadlines tasks plan log (length log)
 
--- so it does where the set fits
+-- so it does where no span asks for more ticks than it has, and each task under a resource leaves room
+abbrev pub DemandKeeps : Type 0
+DemandKeeps = (tasks : List Task) → IsTaskSet tasks → FitsDemand tasks → FitsInterval tasks → RuleKeeps tasks
+
+-- so where the set fits
 abbrev pub FitsKeeps : Type 0
 FitsKeeps = (tasks : List Task) → IsTaskSet tasks → Fits tasks → RuleKeeps tasks
 
--- and, where no task is under a resource, where the load fits
+-- where no task is under a resource, it is enough that no span asks for more ticks than it has
 abbrev pub FreeFitsKeeps : Type 0
-FreeFitsKeeps = (tasks : List Task) → IsTaskSet tasks → All (λ task. task.resource ≡ 0) tasks → FitsLoad tasks → RuleKeeps tasks
+FreeFitsKeeps = (tasks : List Task) → IsTaskSet tasks → All (λ task. task.resource ≡ 0) tasks → FitsDemand tasks → RuleKeeps tasks
 
 -- the rule's own log is among those that miss
 abbrev pub RuleMisses : Type 0

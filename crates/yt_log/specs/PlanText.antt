@@ -1,8 +1,8 @@
 -- The text of a plan.
-use Rattle.std.specs.Prelude.{ℕ, ◌+◌, ◌&&◌, not, nat_lt, nat_le, List, [], ◌∷◌, ◌++◌, length, reverse, bytes_eq, if◌then◌else◌, Option, None, Some, Result, Ok, Err}
-use Rattle.std.specs.List.{position_from}
+use Rattle.std.specs.Prelude.{ℕ, ◌+◌, ◌&&◌, not, nat_lt, nat_le, List, [], ◌∷◌, ◌++◌, length, reverse, if◌then◌else◌, Option, None, Some, Result, Ok, Err}
 use Rattle.yt_base.specs.Digits.{is_digits, value_of}
 use Rattle.yt_base.specs.Files.{read_lines}
+use Rattle.yt_table.specs.Tables.{first_of}
 use Rattle.yt_set.specs.declared.task.Task.{Task}
 use Rattle.yt_set.specs.NamedTasks.{NamedTasks}
 use Rattle.yt_log.specs.declared.plan.PlanItem.{PlanItem}
@@ -23,10 +23,6 @@ pub record ItemTexts : Type 0 where
 abbrev pub item_texts : List (List ℕ) → Option ItemTexts
 item_texts (arrival ∷ task ∷ cost ∷ []) = Some (record { arrival = arrival; task = task; cost = cost })
 item_texts _ = None
-
--- the number of the first task of a name, from 1
-abbrev pub task_named : List (List ℕ) → List ℕ → Option ℕ
-task_named labels name = position_from (bytes_eq name) 1 labels
 
 -- the first fault of the next job of a task, after its last one; the plan so far has so many jobs, of which the last arrives at `latest`
 abbrev pub item_fault : Task → LastJob → ℕ → ℕ → ℕ → ℕ → Option ItemFault
@@ -50,7 +46,7 @@ judged_item tasks plan task arrival cost =
     (item_fault (task_of tasks task) last (last_arrival plan) (length plan) arrival cost)
     (plan ++ record { job = record { task = task; number = last.number + 1 }; arrival = arrival; cost = cost } ∷ [])
 
--- the same, where no task may have the name
+-- the same of the first task of a name, where one has it
 abbrev pub judged_named : List Task → List PlanItem → Option ℕ → ℕ → ℕ → Result (List PlanItem) ItemFault
 judged_named tasks plan None arrival cost = Err Unknown
 judged_named tasks plan (Some task) arrival cost = judged_item tasks plan task arrival cost
@@ -60,7 +56,7 @@ abbrev pub judged_texts : NamedTasks → List PlanItem → Option ItemTexts → 
 judged_texts set plan None = Err Form
 judged_texts set plan (Some texts) =
     if not (is_digits texts.arrival && is_digits texts.cost) then Err Form
-    else judged_named set.tasks plan (task_named set.labels texts.task) (value_of texts.arrival) (value_of texts.cost)
+    else judged_named set.tasks plan (first_of texts.task 1 set.labels) (value_of texts.arrival) (value_of texts.cost)
 
 abbrev pub judged : NamedTasks → List PlanItem → List (List ℕ) → Result (List PlanItem) ItemFault
 judged set plan fields = judged_texts set plan (item_texts fields)

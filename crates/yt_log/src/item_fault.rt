@@ -1,6 +1,6 @@
 //! What is wrong with a job's line.
 ghost use Rattle.std.specs.Prelude.{◌≡◌};
-ghost use Rattle.yt_log.specs.PlanReading.{in_line};
+ghost use Rattle.yt_log.specs.PlanFaults.{in_line};
 
 use crate::read::PlanFault;
 

@@ -3,7 +3,7 @@ ghost use Rattle.std.specs.Prelude.{◌≡◌, MatchOption, MatchResult, Some, N
 ghost use Rattle.yt_base.specs.Digits.{is_digits};
 ghost use Rattle.yt_base.specs.Lines.{fields_of};
 ghost use Rattle.yt_log.specs.PlanText.{item_texts};
-ghost use Rattle.yt_log.specs.PlanReading.{texts_of, capped};
+ghost use Rattle.yt_log.specs.Inside.PlanReading.{texts_of, capped};
 
 use crate::item_fault::ItemFault;
 use yt_base::{Decimal, Fields, digits};

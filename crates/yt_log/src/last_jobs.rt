@@ -4,7 +4,8 @@ ghost use Rattle.yt_log.specs.declared.plan.PlanItem.{PlanItem};
 ghost use Rattle.yt_set.specs.Limits.{most_tasks, most_ticks};
 ghost use Rattle.yt_log.specs.Limits.{most_arrival};
 ghost use Rattle.yt_log.specs.Plan.{its_task, jobs_of};
-ghost use Rattle.yt_log.specs.LastJobs.{AreLast, least_arrival, may_come, may_follow};
+ghost use Rattle.yt_log.specs.LastJobs.{least_arrival};
+ghost use Rattle.yt_log.specs.Inside.LastJobs.{AreLast, may_come, may_follow};
 
 use crate::plan::{MOST_ARRIVAL, PlanItem};
 use yt_set::{MOST_TASKS, Task, TaskSet};

@@ -1,8 +1,8 @@
 //! What is proved of every task set, plan and log, as laws.
-ghost use Rattle.yt_log.specs.Laws.{BlockersMiss, CostsWait, EveryDemandFits, FitsIsExact, FitsKeeps, FreeFitsKeeps, GrowsOnline, OverloadsMiss, RuleIsDetermined, RuleIsLeast, RuleIsSafe, RuleMakesLogs, RuleMisses};
+ghost use Rattle.yt_log.specs.Laws.{BlockersMiss, CostsWait, DemandKeeps, EveryDemandFits, FitsIsExact, FitsKeeps, FreeFitsKeeps, GrowsOnline, OverloadsMiss, RuleIsDetermined, RuleIsLeast, RuleIsSafe, RuleMakesLogs, RuleMisses};
 ghost use Rattle.yt_log.specs.Worked.{WorkedSchedules};
 
-/// Where the load of a set fits, no span asks for more ticks than it has.
+/// Where the load of a set fits and each job is due at its period's end, no span asks for more ticks than it has.
 pub fn every_demand()
     ensures { EveryDemandFits }
 {}
@@ -24,12 +24,18 @@ pub fn rule_is_safe()
     ensures { RuleIsSafe }
 {}
 
+/// Where no span asks for more ticks than it has, and each task under a resource leaves room, each log of the rule on a legal plan
+/// keeps its deadlines up to its length.
+pub fn demand_keeps()
+    ensures { DemandKeeps }
+{}
+
 /// Where a set fits, each log of the rule on a legal plan keeps its deadlines up to its length.
 pub fn fits_keeps()
     ensures { FitsKeeps }
 {}
 
-/// Where no task of a set is under a resource, it is enough for this that the load fits.
+/// Where no task of a set is under a resource, it is enough for this that no span asks for more ticks than it has.
 pub fn free_fits_keeps()
     ensures { FreeFitsKeeps }
 {}

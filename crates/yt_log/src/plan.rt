@@ -31,7 +31,7 @@ impl PlanItem {
         requires early { self.now.arrival ≤ most_arrival }
         ensures { result ≡ deadline_of set.now self.now }
     {
-        self.arrival + set.task(self.job.task).period
+        set.task(self.job.task).deadline(self.arrival)
     }
 }
 
@@ -92,11 +92,11 @@ impl Plan {
     }
 
     /// The item at place `n`, counted from 0. The caller shows that there is one.
-    pub fn at(&self, n: usize) -> PlanItem
+    pub fn at(&self, n: usize) -> &PlanItem
         requires { n < length self.now }
-        ensures { slice_get self.now n ≡ Some result }
+        ensures { slice_get self.now n ≡ Some result.now }
     {
-        self.items[n]
+        &self.items[n]
     }
 
     /// Whether the plan is legal for a set, and each of its items arrives by tick 8,000,000. Takes time linear in the items, and

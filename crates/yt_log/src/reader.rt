@@ -1,24 +1,22 @@
 //! Reads a plan line by line.
-ghost use Rattle.std.specs.Prelude.{◌≡◌, ◌+◌, ◌<◌, ◌≤◌, [], ◌∷◌, ◌++◌, length, reverse, IfErr, IfNone, IfOk, MatchResult, OnErr, OnOk, Ok, Err, IsTrue};
+ghost use Rattle.std.specs.Prelude.{◌≡◌, ◌+◌, ◌<◌, ◌≤◌, [], ◌∷◌, ◌++◌, length, reverse, IfNone, IfOk, MatchResult, OnErr, OnOk, Ok, Err, IsTrue};
 ghost use Rattle.yt_base.specs.Lines.{fields_of};
-ghost use Rattle.yt_base.specs.Files.{after_line};
 ghost use Rattle.yt_set.specs.Limits.{most_ticks};
 ghost use Rattle.yt_log.specs.Limits.{most_arrival};
 ghost use Rattle.yt_log.specs.Plan.{IsLegalPlan, last_arrival};
-ghost use Rattle.yt_log.specs.LastJobs.{may_come};
+ghost use Rattle.yt_log.specs.Inside.LastJobs.{may_come};
 ghost use Rattle.yt_log.specs.PlanText.{item_fault, judged, judged_item};
-ghost use Rattle.yt_log.specs.PlanReading.{IsFaultAt, IsFine};
+ghost use Rattle.yt_log.specs.Inside.PlanReading.{IsFine, judged_so_far};
 
 use crate::item_fault::ItemFault;
 use crate::item_line::{ItemLine, ticks};
 use crate::job::Job;
 use crate::last_jobs::{LastJob, LastJobs};
 use crate::plan::{Plan, PlanItem};
-use crate::read::PlanFault;
 use crate::task_names::TaskNames;
 use std::alloc::{AllocError, Global};
 use std::marker::Model;
-use yt_base::is_skipped;
+use yt_base::{LineError, LineReader};
 use yt_set::Task;
 
 /// The last tick at which a job of a plan's text may arrive.
@@ -36,7 +34,7 @@ pub(crate) struct Reader<'a> {
 }
 
 impl<'a> Model for Reader<'a> {
-    ghost use Rattle.yt_log.specs.PlanReading.{PlanSoFar, IsSoFar};
+    ghost use Rattle.yt_log.specs.Inside.PlanReading.{PlanSoFar, IsSoFar};
 
     ghost Value = { PlanSoFar };
 
@@ -54,22 +52,6 @@ impl<'a> Reader<'a> {
             names,
             plan: Plan::new(alloc),
             last: LastJobs::new(),
-        }
-    }
-
-    /// Reads the line of a number, without its line feed. After an `Err` what was read is as before.
-    pub(crate) fn read_line(&mut self, number: u32, line: &[u8]) -> Result<(), PlanFault>
-        ensures ok { OnOk result (after_line (judged self.old.set) self.old.plan line.now ≡ Ok self.new.plan) }
-        ensures err { IfErr result (λ fault. IsFaultAt self.old number line.now fault) }
-        ensures same { OnErr result (self.new ≡ self.old) }
-        ensures set { self.new.set ≡ self.old.set }
-    {
-        if is_skipped(line) {
-            return Ok(());
-        }
-        match self.judge(line) {
-            Err(fault) => Err(fault.in_line(number)),
-            Ok(item) => Ok(self.add(item)?),
         }
     }
 
@@ -136,6 +118,23 @@ impl<'a> Reader<'a> {
         ensures legal { IsLegalPlan self.entry.set.tasks result }
     {
         self.plan
+    }
+}
+
+impl<'a, 'b> LineReader<'b> for Reader<'a> {
+    type Fault = ItemFault;
+
+    ghost judged = { judged_so_far };
+
+    fn read_line(self, line: &'b [u8]) -> Result<Self, LineError<ItemFault>> {
+        let mut reader = self;
+        match reader.judge(line) {
+            Ok(item) => {
+                reader.add(item)?;
+                Ok(reader)
+            }
+            Err(fault) => Err(LineError::Fault(fault)),
+        }
     }
 }
 

@@ -1,7 +1,7 @@
 //! The tasks of a set by their names.
 ghost use Rattle.std.specs.Prelude.{◌≡◌, ◌≤◌, length, IfOk, IfSome};
 ghost use Rattle.yt_set.specs.Tasks.{IsTaskSet};
-ghost use Rattle.yt_log.specs.PlanText.{task_named};
+ghost use Rattle.yt_table.specs.Tables.{first_of};
 
 use std::alloc::{AllocError, Global};
 use std::marker::Model;
@@ -18,7 +18,7 @@ pub(crate) struct TaskNames<'a> {
 
 impl<'a> Model for TaskNames<'a> {
     ghost use Rattle.yt_set.specs.NamedTasks.{NamedTasks};
-    ghost use Rattle.yt_log.specs.PlanReading.{IsNumbered};
+    ghost use Rattle.yt_log.specs.Inside.PlanReading.{IsNumbered};
 
     ghost Value = { NamedTasks };
 
@@ -46,7 +46,7 @@ impl<'a> TaskNames<'a> {
 
     /// The number of the first task of a name, from 1; `None` exactly where no task has it.
     pub(crate) fn find(&self, name: &[u8]) -> Option<u32>
-        ensures number { result ≡ task_named self.now.labels name.now }
+        ensures number { result ≡ first_of name.now 1 self.now.labels }
         ensures in_set { IfSome result (λ task. (1 ≤ task) × (task ≤ length self.now.tasks)) }
         ensures in_range { IsTaskSet self.now.tasks }
     {

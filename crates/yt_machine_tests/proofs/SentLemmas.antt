@@ -3,7 +3,8 @@ use Rattle.std.proofs.Common.{◌≡◌, ◌≢◌, ℕ, zero, suc, ◌+◌, ◌
 use Rattle.std.specs.Prelude.{ℤ, ◌==◌, if◌then◌else◌}
 use Rattle.std.proofs.lemmas.Bool.{cases_Bool, eqb-true, eqb-false}
 use Rattle.yt_graph.specs.declared.handled.SendItem.{SendItem}
-use Rattle.yt_code.specs.Outbox.{AddsSend, messages_on}
+use Rattle.yt_code.specs.Outbox.{AddsSend}
+use Rattle.yt_graph.specs.Sends.{messages_on}
 
 keeps : {X : Type 0} (b : Bool) (v : X) (ys zs ws : List X) → ys ≡ zs ++ ws → (if b then v ∷ ys else ys) ≡ (if b then v ∷ zs else zs) ++ ws
 keeps true v ys zs ws e = ap (λ x. v ∷ x) e

@@ -3,7 +3,7 @@
 ghost use Rattle.std.specs.Prelude.{◌≡◌, ◌≤◌, IfOk, length, take};
 ghost use Rattle.yt_graph.specs.Picture.{graph_tree};
 ghost use Rattle.yt_graph.specs.WellFormed.{IsWellFormed};
-ghost use Rattle.yt_code.specs.Outbox.{messages_on};
+ghost use Rattle.yt_graph.specs.Sends.{messages_on};
 ghost use Rattle.yt_cost.specs.CodeFit.{HasNoCalls};
 
 use std::alloc::Global;
@@ -102,7 +102,7 @@ impl<'a, R: Abort> Outbox for Same<'a, R> {
 }
 
 /// The graph of a text without a fault.
-fn graph_of(alloc: Global, text: &[u8]) -> Result<Graph, Fail>
+pub(crate) fn graph_of(alloc: Global, text: &[u8]) -> Result<Graph, Fail>
     requires { length text.now ≤ 16777216 }
     ensures { IfOk result (λ g. IsWellFormed (graph_tree g) × HasNoCalls (graph_tree g)) }
 {

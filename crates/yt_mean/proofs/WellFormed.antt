@@ -1,7 +1,8 @@
 -- The handlers of a well-formed graph name only what is there.
 use Rattle.std.proofs.Common.{◌≡◌, ℕ, zero, suc, ◌<◌, List, [], ◌∷◌, Some, subst, arith, length}
 use Rattle.std.specs.Prelude.{slice_get, IsSomeAnd}
-use Rattle.std.proofs.lemmas.Option.{slice_get_within, get_or_from_slice_get}
+use Rattle.yt_list.specs.Numbered.{numbered}
+use Rattle.std.proofs.lemmas.Option.{none-some, slice_get_within, get_or_from_slice_get}
 use Rattle.std.proofs.lemmas.List.Elements.{All-get_or}
 use Rattle.yt_graph.specs.Picture.{ExprTree, num, local, var, neg, lnot, two, call, ExprsTree, no_exprs, more_exprs, StmtTree, set_local, set_var, send, if_only, if_else, repeat, BlockTree, empty, more, PortTree, GraphTree}
 use Rattle.yt_graph.specs.WellFormed.{IsFineExpr, AreFineExprs, IsFineStmt, IsFineBlock, IsFinePort, IsWellFormed}
@@ -41,7 +42,8 @@ module _ (g : GraphTree) (p : PortTree) where
     block_within empty h = tt
     block_within (more s rest) h = (stmt_within s h.0, block_within rest h.1)
 
-pub handler_within : (g : GraphTree) (k : ℕ) (p : PortTree) → IsWellFormed g → slice_get g.ports k ≡ Some p → IsHandlerWithin (length g.vars) p
-handler_within g k p well there =
+pub handler_within : (g : GraphTree) (n : ℕ) (p : PortTree) → IsWellFormed g → numbered g.ports n ≡ Some p → IsHandlerWithin (length g.vars) p
+handler_within g zero p well there = absurd (none-some p there)
+handler_within g (suc k) p well there =
     let fine : IsFinePort g p = subst (IsFinePort g) (get_or_from_slice_get g.ports k p p there) (All-get_or (IsFinePort g) g.ports k p (slice_get_within g.ports k p there) well.each_port) in
     record { params = fine.4; places = block_within g p p.body fine.10 }

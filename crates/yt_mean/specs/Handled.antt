@@ -1,6 +1,7 @@
 -- What `handle` asks of a port, and what it answers.
-use Rattle.std.specs.Prelude.{◌≡◌, ℕ, ◌-◌, ◌≤◌, slice_get}
+use Rattle.std.specs.Prelude.{◌≡◌, ℕ, ◌≤◌}
 use Rattle.std.specs.Option.{ForSome}
+use Rattle.yt_list.specs.Numbered.{numbered}
 use Rattle.yt_graph.specs.Picture.{PortTree, GraphTree}
 use Rattle.yt_graph.specs.Meaning.{Handling}
 use Rattle.yt_mean.specs.declared.handled.Handled.{Handled}
@@ -8,7 +9,7 @@ use Rattle.yt_mean.specs.Within.{IsBlockWithin}
 
 -- a fact about the port with this number, from 1
 abbrev pub ForPort : GraphTree → ℕ → (PortTree → Type 0) → Type 0
-ForPort graph number P = ForSome (slice_get graph.ports (number - 1)) P
+ForPort graph number P = ForSome (numbered graph.ports number) P
 
 -- a port's handler has a local for each number of a message, and names only locals and variables that are there
 pub record IsHandlerWithin (vars : ℕ) (port : PortTree) : Type 0 where

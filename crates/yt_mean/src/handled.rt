@@ -2,7 +2,7 @@
 
 ghost use Rattle.std.specs.Prelude.{◌≡◌, ◌≤◌, length, IfOk};
 ghost use Rattle.yt_graph.specs.Picture.{graph_tree, port_tree};
-ghost use Rattle.yt_graph.specs.Meaning.{handling};
+ghost use Rattle.yt_graph.specs.Meaning.{handler_run, handling, handling_of};
 ghost use Rattle.yt_graph.specs.Cost.{greatest_cost};
 ghost use Rattle.yt_graph.specs.Limits.{most_cost};
 ghost use Rattle.yt_graph.specs.WellFormed.{IsWellFormed};
@@ -40,12 +40,12 @@ pub fn handle(
     requires vars { length vars.now ≡ length graph.now.vars }
     requires cost { ForPort (graph_tree graph.now) port (λ p. greatest_cost p ≤ most_cost) }
     ensures { IfOk result (λ answer.
-        ForPort (graph_tree graph.now) port (λ p. Tells answer (handling p msg.now vars.now))) }
+        ForPort (graph_tree graph.now) port (λ p. Tells answer (handling (graph_tree graph.now) p msg.now vars.now))) }
 {
     run(alloc, graph.ports.at(port as usize - 1), msg, vars)
 }
 
-// Handles a message on this port.
+// What the block of a port's handler does with a message.
 pub(crate) fn run(
     alloc: Global,
     port: &Port,
@@ -55,7 +55,7 @@ pub(crate) fn run(
     requires within { IsHandlerWithin (length vars.now) (port_tree port.now) }
     requires width { length msg.now ≡ port.now.params }
     requires cost { greatest_cost (port_tree port.now) ≤ most_cost }
-    ensures { IfOk result (λ answer. Tells answer (handling (port_tree port.now) msg.now vars.now)) }
+    ensures { IfOk result (λ answer. Tells answer (handling_of (handler_run (port_tree port.now).body port.now.locals msg.now vars.now))) }
 {
     let mut walk = Walk::begin(alloc, port.locals, msg, vars)?;
     walk.block(alloc, &port.body)?;

@@ -9,3 +9,4 @@ mod value;
 mod walk;
 
 pub use handled::{Handled, handle};
+pub use yt_graph::{SendItem, Sends};

@@ -25,10 +25,10 @@ full_room = record { inputs = most_inputs; outputs = most_outputs; resources = m
 
 -- how many more it may declare behind a part
 abbrev pub room_after : Room → ItemTree → Room
-room_after room (input w width period) = record room { inputs = room.inputs - 1 }
-room_after room (output w path) = record room { outputs = room.outputs - 1 }
-room_after room (resource w) = record room { resources = room.resources - 1 }
-room_after room (process w inside vars ports) = record room { processes = room.processes - 1; ports = room.ports - length ports; vars = room.vars - length vars }
+room_after room (input i) = record room { inputs = room.inputs - 1 }
+room_after room (output o) = record room { outputs = room.outputs - 1 }
+room_after room (resource r) = record room { resources = room.resources - 1 }
+room_after room (process p) = record room { processes = room.processes - 1; ports = room.ports - length p.ports; vars = room.vars - length p.vars }
 
 -- the faults of a declaration's name: it was declared before, by what the name stands for, or it's one too many
 abbrev pub declared_faults : Word → ℕ → Option ℕ → ℕ → LimitKind → List NameFault
@@ -48,10 +48,10 @@ width_faults port params (Err fault) = fault ∷ []
 width_faults port params (Ok width) = fault_if (not (int_eq width.value (pos params))) (Width port.place)
 
 abbrev pub is_resource : ItemTree → Bool
-is_resource (resource name) = true
-is_resource (input name width period) = false
-is_resource (output name path) = false
-is_resource (process name inside vars ports) = false
+is_resource (resource r) = true
+is_resource (input i) = false
+is_resource (output o) = false
+is_resource (process p) = false
 
 -- the faults of the word behind `in`
 abbrev pub resource_faults : Word → Option Placed → List NameFault
@@ -101,16 +101,16 @@ process_faults all ops first room vars ports = vars_faults vars 0 room.vars vars
 
 -- the faults of the n-th part, whose first port has this number
 abbrev pub item_faults : List ItemTree → List OpHead → ℕ → ℕ → Room → ItemTree → List NameFault
-item_faults all ops n first room (input w width period) =
-    declared_faults w n (first_of w.text 0 (item_names all)) room.inputs limit.TheVariants.Inputs
-    ++ (range_faults 0 most_width width limit.TheVariants.Width ++ range_faults 1 most_period period limit.TheVariants.Period)
-item_faults all ops n first room (output w path) =
-    declared_faults w n (first_of w.text 0 (item_names all)) room.outputs limit.TheVariants.Outputs ++ err_faults (look_up all path)
-item_faults all ops n first room (resource w) =
-    declared_faults w n (first_of w.text 0 (item_names all)) room.resources limit.TheVariants.Resources
-item_faults all ops n first room (process w inside vars ports) =
-    declared_faults w n (first_of w.text 0 (item_names all)) room.processes limit.TheVariants.Processes
-    ++ (inside_faults all inside ++ process_faults all ops first room vars ports)
+item_faults all ops n first room (input i) =
+    declared_faults i.name n (first_of i.name.text 0 (item_names all)) room.inputs limit.TheVariants.Inputs
+    ++ (range_faults 0 most_width i.width limit.TheVariants.Width ++ range_faults 1 most_period i.period limit.TheVariants.Period)
+item_faults all ops n first room (output o) =
+    declared_faults o.name n (first_of o.name.text 0 (item_names all)) room.outputs limit.TheVariants.Outputs ++ err_faults (look_up all o.path)
+item_faults all ops n first room (resource r) =
+    declared_faults r.name n (first_of r.name.text 0 (item_names all)) room.resources limit.TheVariants.Resources
+item_faults all ops n first room (process p) =
+    declared_faults p.name n (first_of p.name.text 0 (item_names all)) room.processes limit.TheVariants.Processes
+    ++ (inside_faults all p.inside ++ process_faults all ops first room p.vars p.ports)
 
 -- the faults of parts from the n-th on
 abbrev pub items_faults : List ItemTree → List OpHead → ℕ → Room → List Placed → List NameFault

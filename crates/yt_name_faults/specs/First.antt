@@ -21,15 +21,15 @@ limit_rank declared.TheVariants.Period = 9
 limit_rank declared.TheVariants.Every = 10
 limit_rank declared.TheVariants.Turns = 11
 
--- kinds of faults in the order in which they're judged
+-- kinds of faults in the order in which they're judged, a hundred apart: limits are ranked among themselves in between
 abbrev pub fault_rank : NameFault → ℕ
 fault_rank (Unknown p) = 0
-fault_rank (Kind p) = 1
-fault_rank (Twice p) = 2
-fault_rank (Width p) = 3
-fault_rank (Limit p kind) = 4 + limit_rank kind
-fault_rank (Cycle p) = 16
-fault_rank Memory = 17
+fault_rank (Kind p) = 100
+fault_rank (Twice p) = 200
+fault_rank (Width p) = 300
+fault_rank (Limit p kind) = 400 + limit_rank kind
+fault_rank (Cycle p) = 500
+fault_rank Memory = 600
 
 -- where a fault is; want of memory is nowhere
 abbrev pub fault_place : NameFault → Place

@@ -16,10 +16,10 @@ use Rattle.yt_table.specs.Tables.{first_of}
 use Rattle.yt_name_faults.specs.Names.{item_names, port_names, out_names}
 
 abbrev pub ports_of : ItemTree → List PortDeclTree
-ports_of (input w width period) = []
-ports_of (output w path) = []
-ports_of (resource w) = []
-ports_of (process w inside vars ports) = ports
+ports_of (input i) = []
+ports_of (output o) = []
+ports_of (resource r) = []
+ports_of (process p) = p.ports
 
 -- the ports of the whole graph, which are numbered from 0 in this order
 abbrev pub all_ports : List ItemTree → List PortDeclTree
@@ -58,10 +58,10 @@ port_at all path (Some port) = out_of_port path port (slice_get (all_ports all) 
 
 -- the process that a path's first word names
 abbrev pub in_part : List ItemTree → Path → ℕ → ItemTree → Result Target NameFault
-in_part all path first (process w inside vars ports) = port_at all path (first_of path.port.text first (port_names ports))
-in_part all path first (input w width period) = Err (Kind path.process.place)
-in_part all path first (output w other) = Err (Kind path.process.place)
-in_part all path first (resource w) = Err (Kind path.process.place)
+in_part all path first (process p) = port_at all path (first_of path.port.text first (port_names p.ports))
+in_part all path first (input i) = Err (Kind path.process.place)
+in_part all path first (output o) = Err (Kind path.process.place)
+in_part all path first (resource r) = Err (Kind path.process.place)
 
 abbrev pub in_placed : List ItemTree → Path → Option Placed → Result Target NameFault
 in_placed all path None = Err (Unknown path.process.place)
@@ -73,10 +73,10 @@ look_up all path = in_placed all path (placed_named all path.process.text)
 
 -- how many numbers the messages of an input have
 abbrev pub input_width : Word → ItemTree → Result Num NameFault
-input_width w (input name width period) = Ok width
-input_width w (output name path) = Err (Kind w.place)
-input_width w (resource name) = Err (Kind w.place)
-input_width w (process name inside vars ports) = Err (Kind w.place)
+input_width w (input i) = Ok i.width
+input_width w (output o) = Err (Kind w.place)
+input_width w (resource r) = Err (Kind w.place)
+input_width w (process p) = Err (Kind w.place)
 
 abbrev pub width_at : Word → Option Placed → Result Num NameFault
 width_at w None = Err (Unknown w.place)

@@ -69,11 +69,6 @@ pub(crate) fn goes_on(far: &[Option<usize>], port: usize) -> bool
 fn step(jump: &[Option<usize>], at: Option<usize>) -> Option<usize>
     ensures { result ≡ step_back jump.now at }
 {
-    match at {
-        None => None,
-        Some(n) => match jump.get(n) {
-            None => None,
-            Some(next) => *next,
-        },
-    }
+    let next = jump.get(at?)?;
+    *next
 }

@@ -7,7 +7,7 @@ ghost use Rattle.yt_name_faults.specs.Handlers.{is_known, op_named, out_named};
 
 use std::marker::Model;
 use yt_graph::{OpHead, OutDecl, VarDecl};
-use yt_table::{NameSet, NameTable};
+use yt_table::{NameSet, NameTable, first_named};
 
 /// The variables of a handler's process, the outs of its port, and the operators.
 #[derive(Drop)]
@@ -54,20 +54,16 @@ impl<'e, 'a> Env<'e, 'a> {
     pub(crate) fn out(&self, name: &[u8]) -> Option<&'a OutDecl>
         ensures { option_copied result ≡ out_named self.now.outs name.now }
     {
-        match self.outs.find(name) {
-            None => None,
-            Some(place) => self.outs.all().get(place),
-        }
+        let place = self.outs.find(name)?;
+        self.outs.all().get(place)
     }
 
     /// The operator that a name stands for.
     pub(crate) fn op(&self, name: &[u8]) -> Option<&'a OpHead>
         ensures { option_copied result ≡ op_named self.now.ops name.now }
     {
-        match place_of_op(self.ops, name) {
-            None => None,
-            Some(place) => self.ops.get(place),
-        }
+        let place = place_of_op(self.ops, name)?;
+        self.ops.get(place)
     }
 }
 
@@ -75,10 +71,5 @@ impl<'e, 'a> Env<'e, 'a> {
 pub fn place_of_op(ops: &[OpHead], name: &[u8]) -> Option<usize>
     ensures { result ≡ first_of name.now 0 (op_names ops.now) }
 {
-    for (place, op) in ops.iter().enumerate() {
-        if name == op.name.as_slice() {
-            return Some(place);
-        }
-    }
-    None
+    first_named(ops, name)
 }

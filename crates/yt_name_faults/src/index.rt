@@ -81,10 +81,8 @@ impl<'a> Index<'a> {
     pub(crate) fn named(&self, name: &[u8]) -> Option<&Part<'a>>
         ensures { option_map (λ p. placed_of p.now) result ≡ placed_named (trees self.now) name.now }
     {
-        match self.place(name) {
-            None => None,
-            Some(n) => self.part(n),
-        }
+        let n = self.place(name)?;
+        self.part(n)
     }
 
     /// The part at a place.

@@ -107,19 +107,19 @@ fn rank_of(fault: NameFault) -> u32
 {
     match fault {
         NameFault::Unknown(_) => 0,
-        NameFault::Kind(_) => 1,
-        NameFault::Twice(_) => 2,
-        NameFault::Width(_) => 3,
-        NameFault::Limit(_, kind) => 4 + limit_rank(kind),
-        NameFault::Cycle(_) => 16,
-        NameFault::Memory => 17,
+        NameFault::Kind(_) => 100,
+        NameFault::Twice(_) => 200,
+        NameFault::Width(_) => 300,
+        NameFault::Limit(_, kind) => 400 + limit_rank(kind),
+        NameFault::Cycle(_) => 500,
+        NameFault::Memory => 600,
     }
 }
 
 /// Which limit comes first at one place.
 fn limit_rank(kind: LimitKind) -> u32
     ensures rank { result ≡ limit_rank kind }
-    ensures small { result < 12 }
+    ensures small { result < 100 }
 {
     match kind {
         LimitKind::Inputs => 0,

@@ -36,10 +36,8 @@ impl<'a> Part<'a> {
     pub(crate) fn port(&self, name: &[u8]) -> Option<usize>
         ensures { result ≡ first_of name.now self.now.first (port_names (ports_of (item_tree self.now.item.now))) }
     {
-        match self.ports.find(name) {
-            None => None,
-            Some(index) => Some(self.first + index),
-        }
+        let index = self.ports.find(name)?;
+        Some(self.first + index)
     }
 }
 

@@ -72,10 +72,10 @@ pub(crate) fn source_width(index: &Index, source: &Source) -> Result<Num, NameFa
             None => Err(NameFault::Unknown(word.place)),
             Some(part) => input_width(word, part.item),
         },
-        Source::Out(path) => match look_up(index, path) {
-            Ok(target) => Ok(target.width),
-            Err(fault) => Err(fault),
-        },
+        Source::Out(path) => {
+            let target = look_up(index, path)?;
+            Ok(target.width)
+        }
     }
 }
 

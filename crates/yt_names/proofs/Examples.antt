@@ -1,11 +1,12 @@
 -- The faults of small graphs, by the definitions.
-use Rattle.std.proofs.Common.{◌≡◌, ℕ, [], ◌∷◌, List, Some, None, refl}
+use Rattle.std.proofs.Common.{◌≡◌, ℕ, [], ◌∷◌, List, Option, Some, None, refl}
 use Rattle.std.specs.Prelude.{pos, codes}
 use Rattle.yt_graph.specs.declared.ast.Word.{Word}
 use Rattle.yt_graph.specs.declared.ast.Num.{Num}
 use Rattle.yt_graph.specs.declared.ast.Path.{Path}
+use Rattle.yt_graph.specs.declared.ast.VarDecl.{VarDecl}
 use Rattle.yt_graph.specs.declared.ast.Source as source
-use Rattle.yt_graph.specs.AstPicture.{ItemTree, input, output, process, number, name, send_on, no_values, more_values, more_stmts, no_stmts, two_sides}
+use Rattle.yt_graph.specs.AstPicture.{PortDeclTree, ItemTree, input, output, process, number, name, send_on, no_values, more_values, more_stmts, no_stmts, two_sides}
 use Rattle.yt_graph.specs.declared.expr.Op2.TheVariants.{Add}
 use Rattle.yt_name_faults.specs.declared.fault.NameFault.TheVariants.{Unknown, Limit, Cycle}
 use Rattle.yt_name_faults.specs.declared.fault.LimitKind.TheVariants.{Period}
@@ -26,11 +27,14 @@ num n col = record { value = pos n; place = record { line = 1; col = col } }
 path : Word → Word → Word → Path
 path p q o = record { process = p; port = q; out = o }
 
+abbrev process_of : Word → Option Word → List VarDecl → List PortDeclTree → ItemTree
+process_of owner inside vars ports = process (record { name = owner; inside = inside; vars = vars; ports = ports })
+
 -- two ports that feed each other
 loop : List ItemTree
 unfolding word num path
 loop =
-    process (word (codes "p") 9) None []
+    process_of (word (codes "p") 9) None []
     ((record {
       name = word (codes "a") 18;
       source = source.TheVariants.Out (path (word (codes "q") 25) (word (codes "b") 27) (word (codes "o") 29));
@@ -38,7 +42,7 @@ loop =
       outs = record { name = word (codes "o") 38; width = num 0 40; every = None } ∷ [];
       body = more_stmts (send_on (word (codes "o") 50) no_values) no_stmts;
     }) ∷ [])
-    ∷ process (word (codes "q") 67) None []
+    ∷ process_of (word (codes "q") 67) None []
     ((record {
       name = word (codes "b") 76;
       source = source.TheVariants.Out (path (word (codes "p") 83) (word (codes "a") 85) (word (codes "o") 87));
@@ -57,12 +61,12 @@ unfolding loop word num path name_faults placed_named look_up source_width port_
 loop_first = refl
 
 -- `output o from p.a.o` alone
-unknown_is_found : name_faults (output (word (codes "o") 8) (path (word (codes "p") 15) (word (codes "a") 17) (word (codes "o") 19)) ∷ []) [] ≡ Unknown (record { line = 1; col = 15 }) ∷ []
+unknown_is_found : name_faults (output (record { name = word (codes "o") 8; path = path (word (codes "p") 15) (word (codes "a") 17) (word (codes "o") 19) }) ∷ []) [] ≡ Unknown (record { line = 1; col = 15 }) ∷ []
 unfolding word path name_faults placed_named look_up
 unknown_is_found = refl
 
 -- `input a(1) period 0`
-period_is_found : name_faults (input (word (codes "a") 7) (num 1 9) (num 0 19) ∷ []) [] ≡ Limit (record { line = 1; col = 19 }) Period ∷ []
+period_is_found : name_faults (input (record { name = word (codes "a") 7; width = num 1 9; period = num 0 19 }) ∷ []) [] ≡ Limit (record { line = 1; col = 19 }) Period ∷ []
 unfolding word num name_faults
 period_is_found = refl
 
@@ -70,9 +74,9 @@ period_is_found = refl
 good : List ItemTree
 unfolding word num path
 good =
-    input (word (codes "tick") 7) (num 1 12) (num 10 22)
-    ∷ output (word (codes "led") 32) (path (word (codes "p") 41) (word (codes "a") 43) (word (codes "o") 45))
-    ∷ process (word (codes "p") 55) None []
+    input (record { name = word (codes "tick") 7; width = num 1 12; period = num 10 22 })
+    ∷ output (record { name = word (codes "led") 32; path = path (word (codes "p") 41) (word (codes "a") 43) (word (codes "o") 45) })
+    ∷ process_of (word (codes "p") 55) None []
     ((record {
       name = word (codes "a") 64;
       source = source.TheVariants.Input (word (codes "tick") 71);

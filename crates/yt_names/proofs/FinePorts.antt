@@ -160,14 +160,14 @@ module _ (g : GraphTree) (all : List ItemTree) (ops : List OpHead) (few : length
 
   part_fine : (n k : ℕ) (room : Room) (before after : List Var) (i : ItemTree) → g.vars ≡ before ++ (vars_of i ++ after) → item_faults all ops n k room i ≡ [] → IsWritableItem i
       → All (IsFineHandler g) (resolved_ports_of all ops (length before) i)
-  part_fine n k room before after (input w width period) laid none written = All-nil _
-  part_fine n k room before after (output w path) laid none written = All-nil _
-  part_fine n k room before after (resource w) laid none written = All-nil _
-  part_fine n k room before after (process w inside vars ports) laid none written =
-      let named = no_part (declared_faults w n (first_of w.text 0 (item_names all)) room.processes limit.TheVariants.Processes) _ none in
-      let within = no_part (inside_faults all inside) _ named.1 in
-      let own = (no_part (vars_faults vars 0 room.vars vars) _ within.1).1 in
-      ports_fine w.text (resource_name w inside) vars ports k k room.ports before after laid ports own written.3
+  part_fine n k room before after (input i) laid none written = All-nil _
+  part_fine n k room before after (output o) laid none written = All-nil _
+  part_fine n k room before after (resource r) laid none written = All-nil _
+  part_fine n k room before after (process p) laid none written =
+      let named = no_part (declared_faults p.name n (first_of p.name.text 0 (item_names all)) room.processes limit.TheVariants.Processes) _ none in
+      let within = no_part (inside_faults all p.inside) _ named.1 in
+      let own = (no_part (vars_faults p.vars 0 room.vars p.vars) _ within.1).1 in
+      ports_fine p.name.text (resource_name p.name p.inside) p.vars p.ports k k room.ports before after laid p.ports own written.3
 
   pub parts_fine : (n k : ℕ) (room : Room) (before : List Var) (rest : List ItemTree) → g.vars ≡ before ++ flat_map vars_of rest → items_faults all ops n room (placed_from k rest) ≡ []
       → All IsWritableItem rest → All (IsFineHandler g) (resolved_ports all ops (length before) rest)

@@ -4,6 +4,7 @@ mod FineBlocks
 mod FineLemmas
 mod FinePorts
 mod ListLemmas
+mod NumberLemmas
 mod ResolveLemmas
 mod WellFormedLemmas
 mod formed

@@ -1,7 +1,7 @@
 -- What a graph without faults keeps to.
-use Rattle.std.proofs.Common.{◌≡◌, ℕ, ◌+◌, ◌-◌, ◌≤◌, List, [], ◌∷◌, ◌++◌, length, Bool, true, false, Option, Some, None, true≢false, refl, sym, ap, ◌∙◌, arith}
+use Rattle.std.proofs.Common.{◌≡◌, ℕ, ◌+◌, ◌-◌, ◌≤◌, List, [], ◌∷◌, ◌++◌, length, Bool, true, false, bytes_eq, Option, Some, None, true≢false, refl, sym, ap, ◌∙◌, arith}
 use Rattle.std.specs.Prelude.{◌==◌, ℤ, pos, negsuc, int_lt, ◌||◌}
-use Rattle.std.specs.List.{flat_map}
+use Rattle.std.specs.List.{list_any, flat_map}
 use Rattle.std.proofs.lemmas.List.{length-append, length-map}
 use Rattle.std.proofs.lemmas.Bool.Decides.{nat_tests}
 use Rattle.yt_graph.specs.declared.ast.Word.{Word}
@@ -18,6 +18,8 @@ use Rattle.yt_name_faults.specs.Paths.{placed_from, ports_of}
 use Rattle.yt_name_faults.specs.Handlers.{is_outside}
 use Rattle.yt_name_faults.specs.Faults.{declared_faults, range_faults, vars_faults, ports_faults, item_faults, items_faults, room_after, full_room, name_faults}
 use Rattle.yt_names.specs.Resolved.{size_of, inputs_of, outputs_of, resources_of, own_resources_of, own_resource, var_of, vars_of, resource_name, resolved_port, resolved_ports_of, resolved_ports, resolved}
+use Rattle.yt_names.proofs.formed.Lists.{each_all, each_there}
+use Rattle.yt_names.proofs.formed.Names.{process_name, of_ports, of_vars}
 
 -- faults that are none have no part
 pub no_part : (a b : List NameFault) → a ++ b ≡ [] → (a ≡ []) × (b ≡ [])
@@ -73,7 +75,8 @@ pub record HaveRoom (all : List ItemTree) (room : Room) (items : List ItemTree) 
   pub inputs : length (flat_map inputs_of items) ≤ room.inputs
   pub outputs : length (flat_map (outputs_of all) items) ≤ room.outputs
   pub resources : length (flat_map resources_of items) ≤ room.resources
-  pub processes : length (flat_map own_resources_of items) ≤ room.processes
+  pub processes : length (flat_map process_name items) ≤ room.processes
+  pub own_resources : length (flat_map own_resources_of items) ≤ room.processes
   pub ports : length (flat_map ports_of items) ≤ room.ports
   pub vars : length (flat_map vars_of items) ≤ room.vars
 
@@ -84,32 +87,33 @@ own_is_one w None (v ∷ vs) = omega arith
 
 one_part : (all : List ItemTree) (ops : List OpHead) (n first : ℕ) (room : Room) (i : ItemTree) (rest : List ItemTree)
     → item_faults all ops n first room i ≡ [] → HaveRoom all (room_after room i) rest → HaveRoom all room (i ∷ rest)
-one_part all ops n first room (input w width period) rest e h =
-    let one = has_room w n _ room.inputs _ (no_part _ _ e).0 in
-    record { inputs = omega (arith, one, h.inputs); outputs = h.outputs; resources = h.resources; processes = h.processes; ports = h.ports; vars = h.vars }
-one_part all ops n first room (output w path) rest e h =
-    let one = has_room w n _ room.outputs _ (no_part _ _ e).0 in
-    record { inputs = h.inputs; outputs = omega (arith, one, h.outputs); resources = h.resources; processes = h.processes; ports = h.ports; vars = h.vars }
-one_part all ops n first room (resource w) rest e h =
-    let one = has_room w n _ room.resources _ e in
-    record { inputs = h.inputs; outputs = h.outputs; resources = omega (arith, one, h.resources); processes = h.processes; ports = h.ports; vars = h.vars }
-one_part all ops n first room (process w inside vars ports) rest e h =
+one_part all ops n first room (input i) rest e h =
+    let one = has_room i.name n _ room.inputs _ (no_part _ _ e).0 in
+    record { inputs = omega (arith, one, h.inputs); outputs = h.outputs; resources = h.resources; processes = h.processes; own_resources = h.own_resources; ports = h.ports; vars = h.vars }
+one_part all ops n first room (output o) rest e h =
+    let one = has_room o.name n _ room.outputs _ (no_part _ _ e).0 in
+    record { inputs = h.inputs; outputs = omega (arith, one, h.outputs); resources = h.resources; processes = h.processes; own_resources = h.own_resources; ports = h.ports; vars = h.vars }
+one_part all ops n first room (resource r) rest e h =
+    let one = has_room r.name n _ room.resources _ e in
+    record { inputs = h.inputs; outputs = h.outputs; resources = omega (arith, one, h.resources); processes = h.processes; own_resources = h.own_resources; ports = h.ports; vars = h.vars }
+one_part all ops n first room (process p) rest e h =
     let parts = no_part _ _ e in
-    let one = has_room w n _ room.processes _ parts.0 in
+    let one = has_room p.name n _ room.processes _ parts.0 in
     let both = no_part _ _ (no_part _ _ parts.1).1 in
-    let some_vars = vars_room vars 0 room.vars vars both.0 in
-    let some_ports = ports_room all ops vars ports first first room.ports ports both.1 in
+    let some_vars = vars_room p.vars 0 room.vars p.vars both.0 in
+    let some_ports = ports_room all ops p.vars p.ports first first room.ports p.ports both.1 in
     record {
       inputs = h.inputs;
       outputs = h.outputs;
       resources = h.resources;
-      processes = omega (arith, one, own_is_one w inside vars, length-append (own_resource w inside vars) (flat_map own_resources_of rest), h.processes);
-      ports = omega (arith, some_ports, length-append ports (flat_map ports_of rest), h.ports);
-      vars = omega (arith, some_vars, length-append (vars_of (process w inside vars ports)) (flat_map vars_of rest), length-map vars (var_of w.text), h.vars);
+      processes = omega (arith, one, h.processes);
+      own_resources = omega (arith, one, own_is_one p.name p.inside p.vars, length-append (own_resource p.name p.inside p.vars) (flat_map own_resources_of rest), h.own_resources);
+      ports = omega (arith, some_ports, length-append p.ports (flat_map ports_of rest), h.ports);
+      vars = omega (arith, some_vars, length-append (vars_of (process p)) (flat_map vars_of rest), length-map p.vars (var_of p.name.text), h.vars);
     }
 
 pub all_parts : (all : List ItemTree) (ops : List OpHead) (n k : ℕ) (room : Room) (items : List ItemTree) → items_faults all ops n room (placed_from k items) ≡ [] → HaveRoom all room items
-all_parts all ops n k room [] e = record { inputs = omega arith; outputs = omega arith; resources = omega arith; processes = omega arith; ports = omega arith; vars = omega arith }
+all_parts all ops n k room [] e = record { inputs = omega arith; outputs = omega arith; resources = omega arith; processes = omega arith; own_resources = omega arith; ports = omega arith; vars = omega arith }
 all_parts all ops n k room (i ∷ rest) e =
     let parts = no_part _ _ e in
     one_part all ops n k room i rest parts.0 (all_parts all ops (n + 1) (k + length (ports_of i)) (room_after room i) rest parts.1)
@@ -124,19 +128,28 @@ ports_counted all ops first (i ∷ rest) =
     ∙ sym (length-append (ports_of i) (flat_map ports_of rest))
   where
     one : (i : ItemTree) → length (resolved_ports_of all ops first i) ≡ length (ports_of i)
-    one (input w width period) = refl
-    one (output w path) = refl
-    one (resource w) = refl
-    one (process w inside vars ports) = length-map ports (resolved_port all w.text (resource_name w inside) ops vars first)
+    one (input i) = refl
+    one (output o) = refl
+    one (resource r) = refl
+    one (process p) = length-map p.ports (resolved_port all p.name.text (resource_name p.name p.inside) ops p.vars first)
 
 pub counted : (items : List ItemTree) (ops : List OpHead) → name_faults items ops ≡ [] → IsCounted (resolved items ops)
 unfolding name_faults resolved
 counted items ops e =
     let h = all_parts items ops 0 0 full_room items e in
+    let names = flat_map process_name items in
     record {
       inputs = h.inputs;
       outputs = h.outputs;
-      groups = omega (arith, length-append (flat_map resources_of items) (flat_map own_resources_of items), h.resources, h.processes);
+      groups = omega (arith, length-append (flat_map resources_of items) (flat_map own_resources_of items), h.resources, h.own_resources);
       vars = h.vars;
       ports = omega (arith, ports_counted items ops 0 items, h.ports);
+      processes = (
+        names,
+        h.processes,
+        record {
+          of_ports = each_all _ (resolved_ports items ops 0 items) (of_ports (λ y. list_any (bytes_eq y) names ≡ true) items ops 0 items (each_there names));
+          of_vars = each_all _ (flat_map vars_of items) (of_vars (λ y. list_any (bytes_eq y) names ≡ true) items (each_there names));
+        },
+      );
     }

@@ -162,20 +162,20 @@ out_head o = record { name = o.name.text; width = count_of o.width; every = ever
 
 -- the inputs in file order
 abbrev pub inputs_of : ItemTree → List graph.Input.Input
-inputs_of (input w width period) = record { name = w.text; width = count_of width; period = size_of period.value } ∷ []
-inputs_of (output w path) = []
-inputs_of (resource w) = []
-inputs_of (process w inside vars ports) = []
+inputs_of (input i) = record { name = i.name.text; width = count_of i.width; period = size_of i.period.value } ∷ []
+inputs_of (output o) = []
+inputs_of (resource r) = []
+inputs_of (process p) = []
 
 abbrev pub resolved_inputs : List ItemTree → List graph.Input.Input
 resolved_inputs items = flat_map inputs_of items
 
 -- the resources that are declared, in file order
 abbrev pub resources_of : ItemTree → List (List ℕ)
-resources_of (input w width period) = []
-resources_of (output w path) = []
-resources_of (resource w) = w.text ∷ []
-resources_of (process w inside vars ports) = []
+resources_of (input i) = []
+resources_of (output o) = []
+resources_of (resource r) = r.name.text ∷ []
+resources_of (process p) = []
 
 -- a process with variables that is in no declared resource is one of its own
 abbrev pub own_resource : Word → Option Word → List VarDecl → List (List ℕ)
@@ -184,10 +184,10 @@ own_resource w None [] = []
 own_resource w None (v ∷ vs) = w.text ∷ []
 
 abbrev pub own_resources_of : ItemTree → List (List ℕ)
-own_resources_of (input w width period) = []
-own_resources_of (output w path) = []
-own_resources_of (resource w) = []
-own_resources_of (process w inside vars ports) = own_resource w inside vars
+own_resources_of (input i) = []
+own_resources_of (output o) = []
+own_resources_of (resource r) = []
+own_resources_of (process p) = own_resource p.name p.inside p.vars
 
 -- declared resources come first
 abbrev pub resolved_groups : List ItemTree → List (List ℕ)
@@ -197,10 +197,10 @@ abbrev pub var_of : List ℕ → VarDecl → graph.Var.Var
 var_of owner v = record { process = owner; name = v.name.text; start = v.start }
 
 abbrev pub vars_of : ItemTree → List graph.Var.Var
-vars_of (input w width period) = []
-vars_of (output w path) = []
-vars_of (resource w) = []
-vars_of (process w inside vars ports) = map (var_of w.text) vars
+vars_of (input i) = []
+vars_of (output o) = []
+vars_of (resource r) = []
+vars_of (process p) = map (var_of p.name.text) p.vars
 
 abbrev pub resolved_vars : List ItemTree → List graph.Var.Var
 resolved_vars items = flat_map vars_of items
@@ -211,10 +211,10 @@ output_to word (Ok t) = record { name = word; port = number_of t.port; out = num
 output_to word (Err fault) = record { name = word; port = 0; out = 0 }
 
 abbrev pub outputs_of : List ItemTree → ItemTree → List graph.Output.Output
-outputs_of all (input w width period) = []
-outputs_of all (output w path) = output_to w.text (look_up all path) ∷ []
-outputs_of all (resource w) = []
-outputs_of all (process w inside vars ports) = []
+outputs_of all (input i) = []
+outputs_of all (output o) = output_to o.name.text (look_up all o.path) ∷ []
+outputs_of all (resource r) = []
+outputs_of all (process p) = []
 
 abbrev pub resolved_outputs : List ItemTree → List graph.Output.Output
 resolved_outputs items = flat_map (outputs_of items) items
@@ -256,10 +256,10 @@ resolved_port all owner key ops vars first p =
 
 -- the ports of a part, where so many variables stand before it
 abbrev pub resolved_ports_of : List ItemTree → List OpHead → ℕ → ItemTree → List PortTree
-resolved_ports_of all ops first (input w width period) = []
-resolved_ports_of all ops first (output w path) = []
-resolved_ports_of all ops first (resource w) = []
-resolved_ports_of all ops first (process w inside vars ports) = map (resolved_port all w.text (resource_name w inside) ops vars first) ports
+resolved_ports_of all ops first (input i) = []
+resolved_ports_of all ops first (output o) = []
+resolved_ports_of all ops first (resource r) = []
+resolved_ports_of all ops first (process p) = map (resolved_port all p.name.text (resource_name p.name p.inside) ops p.vars first) p.ports
 
 abbrev pub resolved_ports : List ItemTree → List OpHead → ℕ → List ItemTree → List PortTree
 resolved_ports all ops first [] = []

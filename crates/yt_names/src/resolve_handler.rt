@@ -1,6 +1,7 @@
 //! Handlers of the resolved graph.
 ghost use Rattle.std.specs.Prelude.{◌≡◌, ◌-◌, ◌≤◌, length, take, OnOk, IfOk};
 ghost use Rattle.yt_graph.specs.AstPicture.{ast_stmt_tree, ast_block_tree};
+ghost use Rattle.yt_graph.specs.Limits.{most_locals};
 ghost use Rattle.yt_graph.specs.Picture.{expr_tree, stmt_tree, block_tree};
 ghost use Rattle.yt_name_faults.specs.Handlers.{left_after, left_after_block};
 ghost use Rattle.yt_names.specs.Resolved.{with_local, locals_after, param_locals, set_of, resolved_stmt, resolved_block, resolved_body, locals_of};
@@ -31,7 +32,7 @@ struct Build<'a> {
     visible: Visible<'a>,
     /// How many more the handler may have.
     left: usize,
-    ghost short: { left ≤ 16 },
+    ghost short: { left ≤ most_locals },
 }
 
 /// What a handler is by its names.
@@ -59,7 +60,7 @@ pub(crate) fn resolve_handler<'a>(
 impl<'a> Build<'a> {
     /// The place of a new local.
     fn place(&self) -> u32
-        ensures { result ≡ 16 - self.now.left }
+        ensures { result ≡ most_locals - self.now.left }
     {
         MOST_LOCALS.saturating_sub(self.left) as u32
     }

@@ -13,11 +13,11 @@ use crate::scope::Scope;
 use crate::uses_var::block_uses_var;
 use std::alloc::{AllocError, Global};
 use yt_graph::{
-    Feed, Input, Inputs, Item, OpHead, Port, PortDecl, Ports, Source, Stmt, VarDecl, Vars, Word,
+    Feed, Inputs, Item, OpHead, Port, PortDecl, Ports, Source, Stmt, VarDecl, Vars, Word,
 };
-use yt_list::{Name, Names};
+use yt_list::{Named, Names};
 use yt_name_faults::{Index, NameFault, Target, look_up};
-use yt_table::NameTable;
+use yt_table::{NameTable, first_named};
 
 /// What ports are resolved by: the names of the graph, the operators, and the inputs and resources.
 #[derive(Drop)]
@@ -132,7 +132,7 @@ fn resolve_feed(heads: &Heads, source: &Source) -> Feed
 {
     match source {
         Source::Input(word) => {
-            Feed::Input(input_number(word.text.as_slice(), heads.inputs.as_slice()))
+            Feed::Input(number_among(word.text.as_slice(), heads.inputs.as_slice()))
         }
         Source::Out(path) => feed_to(look_up(heads.index, path)),
     }
@@ -156,32 +156,18 @@ fn group_of(heads: &Heads, key: &Word, body: &[Stmt]) -> u32
     ensures { result ≡ group_of (resolved_groups (trees heads.now.index.now)) key.now.text (block_tree body.now) }
 {
     if block_uses_var(body) {
-        group_number(key.text.as_slice(), heads.groups.as_slice())
+        number_among(key.text.as_slice(), heads.groups.as_slice())
     } else {
         0
     }
 }
 
-/// The number of the first input of a name, from 1.
-fn input_number(word: &[u8], inputs: &[Input]) -> u32
-    ensures { result ≡ number_among word.now (map (λ i. i.name) inputs.now) }
+/// The number from 1 of the first of these items that has a name; 0 where none has it.
+fn number_among<T: Named>(word: &[u8], items: &[T]) -> u32
+    ensures { result ≡ number_among word.now (map T.text items.now) }
 {
-    for (place, input) in inputs.iter().enumerate() {
-        if word == input.name.as_slice() {
-            return number_of(place);
-        }
+    match first_named(items, word) {
+        Some(place) => number_of(place),
+        None => 0,
     }
-    0
-}
-
-/// The number of the first resource of a name, from 1.
-fn group_number(word: &[u8], groups: &[Name]) -> u32
-    ensures { result ≡ number_among word.now groups.now }
-{
-    for (place, name) in groups.iter().enumerate() {
-        if word == name.as_slice() {
-            return number_of(place);
-        }
-    }
-    0
 }

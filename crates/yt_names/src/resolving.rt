@@ -24,7 +24,8 @@ pub fn resolve(alloc: Global, ast: &Ast, ops: &[OpHead]) -> Result<Graph, NameFa
     // The graph is the one that the names stand for, and there is no fault.
     ensures ok { IfOk result (λ g. (name_faults (ast_tree ast.now) ops.now ≡ []) × (graph_tree g ≡ resolved (ast_tree ast.now) ops.now)) }
 
-    // That graph is well formed, where the tree is one that a text can have and the operators are within their limits.
+    // That graph is well formed, where the tree can be written, as each tree of a text can and each that `ast_ok` holds of,
+    // and the operators are within their limits.
     ensures well_formed { IsWritable (ast_tree ast.now) → AreFineHeads ops.now → IfOk result (λ g. IsWellFormed (graph_tree g)) }
 
     // A fault is the one that decides.

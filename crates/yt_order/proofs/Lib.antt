@@ -1,3 +1,4 @@
 pub mod Lemmas
 mod Falling
+mod Sorts
 mod Words

@@ -3,3 +3,4 @@ pub mod Words
 pub mod Laws
 pub mod Sorting
 pub mod Falling
+pub mod Gaps

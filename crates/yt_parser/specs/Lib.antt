@@ -1,3 +1,2 @@
 pub mod Parses
-pub mod Signs
-pub mod Results
+pub mod Inside

@@ -7,9 +7,9 @@ ghost use Rattle.yt_lexer.specs.declared.token.Token.{Token};
 ghost use Rattle.yt_parser.specs.declared.cursor.Sign.TheVariants as declared_sign;
 ghost use Rattle.yt_parser.specs.declared.cursor.Stop.TheVariants.{Memory};
 ghost use Rattle.yt_grammar.specs.Lexemes.{Tok, digits, toks_of, lexeme_of, IsLexeme, AreTokens};
-ghost use Rattle.yt_parser.specs.Signs.{lexeme_sign, sign_of, sign_is_key, sign_is_mark, sign_op, op_of_rank, place_next, IsSpan, AreSpans};
-ghost use Rattle.yt_grammar.specs.Reading.{at_key, at_mark, at_word, at_number, key_reader, mark_reader, word_reader, number_reader, behind, op_at};
-ghost use Rattle.yt_parser.specs.Results.{IsReading};
+ghost use Rattle.yt_parser.specs.Inside.Signs.{lexeme_sign, sign_of, sign_is_key, sign_is_mark, sign_op, op_of_rank, place_next, IsSpan, AreSpans};
+ghost use Rattle.yt_grammar.specs.Inside.Reading.{at_key, at_mark, at_word, at_number, key_reader, mark_reader, word_reader, number_reader, behind, op_at};
+ghost use Rattle.yt_parser.specs.Inside.Results.{IsReading};
 
 use std::alloc::{AllocError, Global};
 use std::marker::Model;
@@ -124,7 +124,7 @@ pub(crate) struct Cursor<'a> {
 impl<'a> Model for Cursor<'a> {
     ghost use Rattle.std.specs.Prelude.{◌≡◌, List};
     ghost use Rattle.yt_grammar.specs.Lexemes.{Tok, toks_of, AreTokens};
-    ghost use Rattle.yt_parser.specs.Signs.{sign_of, AreSpans};
+    ghost use Rattle.yt_parser.specs.Inside.Signs.{sign_of, AreSpans};
 
     ghost Value = { List Tok };
 

@@ -5,9 +5,9 @@ ghost use Rattle.std.specs.Prelude.{◌≡◌, ◌+◌, ◌^◌, ◌<◌, ◌≤
 ghost use Rattle.yt_graph.specs.AstPicture.{two_sides, ast_expr_tree, ast_exprs_tree};
 ghost use Rattle.yt_grammar.specs.declared.sign.Mark.TheVariants.{Comma};
 ghost use Rattle.yt_grammar.specs.Grammar.{right_rank, loosest};
-ghost use Rattle.yt_grammar.specs.Reading.{made, behind, behind_mark, one_or_more, op_at, chain, turns_at, args_reader, prim_reader, rank_reader, expr_reader};
-ghost use Rattle.yt_parser.specs.Results.{IsReading};
-ghost use Rattle.yt_grammar.specs.Parts.{paren_reader, name_or_call_reader};
+ghost use Rattle.yt_grammar.specs.Inside.Reading.{made, behind, behind_mark, one_or_more, op_at, chain, turns_at, args_reader, prim_reader, rank_reader, expr_reader};
+ghost use Rattle.yt_parser.specs.Inside.Results.{IsReading};
+ghost use Rattle.yt_grammar.specs.Inside.Parts.{paren_reader, name_or_call_reader};
 
 use crate::cursor::{Cursor, Stop};
 use crate::deep::{

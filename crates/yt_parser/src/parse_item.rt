@@ -3,9 +3,9 @@
 ghost use Rattle.std.specs.Prelude.{◌≡◌, ◌<◌, ◌≤◌, map, length, IfOk};
 ghost use Rattle.yt_graph.specs.AstPicture.{item_tree, ast_tree, port_decl_tree};
 ghost use Rattle.yt_grammar.specs.declared.sign.Keyword.TheVariants as keys;
-ghost use Rattle.yt_grammar.specs.Reading.{in_parens, at_key, many, number_reader, path_reader, start_reader, var_reader, at_item, item_reader, graph_reader};
-ghost use Rattle.yt_parser.specs.Results.{IsReading};
-ghost use Rattle.yt_grammar.specs.Parts.{input_reader, output_reader, resource_reader, inside_reader, process_reader};
+ghost use Rattle.yt_grammar.specs.Inside.Reading.{in_parens, at_key, many, number_reader, path_reader, start_reader, var_reader, at_item, item_reader, graph_reader};
+ghost use Rattle.yt_parser.specs.Inside.Results.{IsReading};
+ghost use Rattle.yt_grammar.specs.Inside.Parts.{input_reader, output_reader, resource_reader, inside_reader, process_reader};
 
 use crate::cursor::{Cursor, Stop};
 use crate::parse_port::ports;

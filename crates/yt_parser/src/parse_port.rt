@@ -4,9 +4,9 @@ ghost use Rattle.std.specs.Prelude.{◌<◌, ◌≤◌, map, length, IfOk};
 ghost use Rattle.yt_graph.specs.AstPicture.{port_decl_tree};
 ghost use Rattle.yt_grammar.specs.declared.sign.Keyword.TheVariants as keys;
 ghost use Rattle.yt_grammar.specs.declared.sign.Mark.TheVariants.{Comma};
-ghost use Rattle.yt_grammar.specs.Reading.{behind_mark, at_key, many, one_or_more, word_reader, source_reader, out_reader, params_reader, port_reader};
-ghost use Rattle.yt_parser.specs.Results.{IsReading};
-ghost use Rattle.yt_grammar.specs.Parts.{every_reader, param_list_reader};
+ghost use Rattle.yt_grammar.specs.Inside.Reading.{behind_mark, at_key, many, one_or_more, word_reader, source_reader, out_reader, params_reader, port_reader};
+ghost use Rattle.yt_parser.specs.Inside.Results.{IsReading};
+ghost use Rattle.yt_grammar.specs.Inside.Parts.{every_reader, param_list_reader};
 
 use crate::cursor::{Cursor, Stop};
 use crate::parse_item::{path, width};

@@ -2,9 +2,9 @@
 
 ghost use Rattle.std.specs.Prelude.{◌≡◌, ◌<◌, ◌≤◌, map, length, IfOk};
 ghost use Rattle.yt_graph.specs.AstPicture.{ast_expr_tree, ast_exprs_tree, ast_stmt_tree, ast_block_tree};
-ghost use Rattle.yt_grammar.specs.Reading.{in_braces, many, value_reader, values_reader, at_stmt, stmt_reader, if_reader, repeat_reader, block_reader};
-ghost use Rattle.yt_parser.specs.Results.{IsReading};
-ghost use Rattle.yt_grammar.specs.Parts.{value_list_reader, let_reader, send_reader, assign_reader};
+ghost use Rattle.yt_grammar.specs.Inside.Reading.{in_braces, many, value_reader, values_reader, at_stmt, stmt_reader, if_reader, repeat_reader, block_reader};
+ghost use Rattle.yt_parser.specs.Inside.Results.{IsReading};
+ghost use Rattle.yt_grammar.specs.Inside.Parts.{value_list_reader, let_reader, send_reader, assign_reader};
 
 use crate::cursor::{Cursor, Stop};
 use crate::parse_expr::{expr, exprs};
@@ -149,7 +149,7 @@ fn repeat(cursor: &mut Cursor<'_>, alloc: Global, blocks: u32) -> Result<AstStmt
 }
 
 /// An expression of a statement.
-#[tactic(auto, unfolding(yt_grammar::specs::Reading::value_reader))]
+#[tactic(auto, unfolding(yt_grammar::specs::Inside::Reading::value_reader))]
 fn value(cursor: &mut Cursor<'_>, alloc: Global) -> Result<AstExpr, Stop>
     ensures read { IsReading ast_expr_tree (value_reader cursor.old) result cursor.new }
     ensures less { IfOk result (λ _. length cursor.new < length cursor.old) }
@@ -170,7 +170,7 @@ fn values(cursor: &mut Cursor<'_>, alloc: Global) -> Result<AstExprs, Stop>
 }
 
 /// The values of a send.
-#[tactic(auto, unfolding(yt_grammar::specs::Reading::value_reader))]
+#[tactic(auto, unfolding(yt_grammar::specs::Inside::Reading::value_reader))]
 fn value_list(cursor: &mut Cursor<'_>, alloc: Global) -> Result<AstExprs, Stop>
     ensures read { IsReading (λ v. map ast_expr_tree v.items) (value_list_reader cursor.old) result cursor.new }
     ensures less { IfOk result (λ _. length cursor.new ≤ length cursor.old) }

@@ -4,6 +4,7 @@ use Rattle.std.specs.Prelude.{slice_get, IsSomeAnd}
 use Rattle.std.specs.Option.{option_map, unwrap_or}
 use Rattle.std.proofs.lemmas.List.Elements.{All-get_or}
 use Rattle.std.proofs.lemmas.Option.{slice_get_within, get_or_from_slice_get}
+use Rattle.yt_list.specs.Numbered.{numbered}
 use Rattle.yt_graph.specs.declared.graph.Input.{Input}
 use Rattle.yt_graph.specs.declared.port.Feed as feed
 use Rattle.yt_graph.specs.declared.port.Feed.{Feed}
@@ -28,8 +29,7 @@ distance_bound g n (feed.TheVariants.Input i) h = omega arith
 distance_bound g zero (feed.TheVariants.Out port out) h = absurd h
 distance_bound g (suc n) (feed.TheVariants.Out port out) h =
     let there = of_some (λ (p : PortTree). EndsWithin g n p.feed) (slice_get g.ports h.0) h.2 in
-    let place : port - 1 ≡ h.0 = omega (arith, h.1) in
-    let is = ap (slice_get g.ports) place ∙ there.1 in
+    let is = ap (numbered g.ports) h.1 ∙ there.1 in
     let e = ap (λ o. unwrap_or (option_map (λ p. distance_within g n p.feed + 1) o) 0) is in
     omega (arith, e, distance_bound g n there.0.feed there.2)
 
@@ -45,11 +45,10 @@ module _ (g : GraphTree) (well : IsWellFormed g) where
   coming : (k : ℕ) (p : PortTree) → slice_get g.ports k ≡ Some p → AreNearer (distance_of g p) → (f : Feed) → p.feed ≡ f → (1 ≤ period_of g p) × (start_of g p ≤ 4000000)
   coming k p there nearer (feed.TheVariants.Input input) fed =
       let width = subst (IsFeedOfWidth g p.params) fed (fine_port g k p well there).2 in
-      let place : input - 1 ≡ width.0 = omega (arith, width.1) in
       let at = of_some (λ (i : Input). i.width ≡ p.params) (slice_get g.inputs width.0) width.2 in
-      let is : slice_get g.inputs (input - 1) ≡ Some at.0 = ap (slice_get g.inputs) place ∙ at.1 in
+      let is : numbered g.inputs input ≡ Some at.0 = ap (numbered g.inputs) width.1 ∙ at.1 in
       let fine = subst IsFineInput (get_or_from_slice_get g.inputs width.0 at.0 at.0 at.1) (All-get_or IsFineInput g.inputs width.0 at.0 (slice_get_within g.inputs width.0 at.0 at.1) well.each_input) in
-      let stream : stream_of g p ≡ record { period = unwrap_or (option_map (λ i. i.period) (slice_get g.inputs (input - 1))) 0; start = 0 } = ap (stream_within g (length g.ports)) fed in
+      let stream : stream_of g p ≡ record { period = unwrap_or (option_map (λ i. i.period) (numbered g.inputs input)) 0; start = 0 } = ap (stream_within g (length g.ports)) fed in
       let period : period_of g p ≡ at.0.period = ap (λ s. s.period) stream ∙ ap (λ o. unwrap_or (option_map (λ (i : Input). i.period) o) 0) is in
       let start : start_of g p ≡ 0 = ap (λ s. s.start) stream in
       (subst (λ n. 1 ≤ n) (sym period) fine.2.0, omega (arith, start))

@@ -3,6 +3,8 @@ use Rattle.std.proofs.Common.{◌≡◌, ℕ, zero, suc, ◌+◌, ◌-◌, ◌�
 use Rattle.std.specs.Prelude.{slice_get, IsSomeAnd}
 use Rattle.std.specs.Option.{option_map, unwrap_or}
 use Rattle.std.proofs.lemmas.Option.{slice_get_within}
+use Rattle.yt_list.specs.Numbered.{numbered}
+use Rattle.yt_list.proofs.Lemmas.{numbered_place}
 use Rattle.yt_graph.specs.declared.port.Feed as feed
 use Rattle.yt_graph.specs.declared.port.Feed.{Feed}
 use Rattle.yt_graph.specs.declared.port.Feed.TheVariants.{Input, Out}
@@ -28,11 +30,12 @@ module _ (g : GraphTree) where
       by : (n : ℕ) → EndsWithin g n (Out port out) → (m : ℕ) × (n ≡ suc m) × EndsWithin g m q.feed × (distance_within g n at ≡ distance_within g m q.feed + 1)
       by zero h = absurd h
       by (suc m) h =
-          let place : port - 1 ≡ h.0 = omega (arith, h.1) in (
+          let place : port - 1 ≡ h.0 = omega (arith, h.1) in
+          let number = numbered_place g.ports port (omega (arith, h.1)) ∙ there in (
             m,
             refl,
             some_is (λ p. EndsWithin g m p.feed) (slice_get g.ports h.0) q (sym (ap (slice_get g.ports) place) ∙ there) h.2,
-            ap (distance_within g (suc m)) is ∙ ap (λ o. unwrap_or (option_map (λ p. distance_within g m p.feed + 1) o) 0) there,
+            ap (distance_within g (suc m)) is ∙ ap (λ o. unwrap_or (option_map (λ p. distance_within g m p.feed + 1) o) 0) number,
           )
 
   -- the port that the out is of is there
@@ -60,8 +63,7 @@ module _ (g : GraphTree) where
   stream_more (suc n) (feed.TheVariants.Out port out) h =
       let P : PortTree → Type 0 = λ p. EndsWithin g n p.feed in
       let there = of_some P (slice_get g.ports h.0) h.2 in
-      let place : port - 1 ≡ h.0 = omega (arith, h.1) in
-      let is = ap (slice_get g.ports) place ∙ there.1 in
+      let is = ap (numbered g.ports) h.1 ∙ there.1 in
       ap (λ o. unwrap_or (option_map (λ p. passed_on p (stream_within g (suc n) p.feed) out) o) (record { period = 0; start = 0 })) is
       ∙ ap (λ s. passed_on there.0 s out) (stream_more n there.0.feed there.2)
       ∙ sym (ap (λ o. unwrap_or (option_map (λ p. passed_on p (stream_within g n p.feed) out) o) (record { period = 0; start = 0 })) is)
@@ -72,8 +74,7 @@ module _ (g : GraphTree) where
   distance_more (suc n) (feed.TheVariants.Out port out) h =
       let P : PortTree → Type 0 = λ p. EndsWithin g n p.feed in
       let there = of_some P (slice_get g.ports h.0) h.2 in
-      let place : port - 1 ≡ h.0 = omega (arith, h.1) in
-      let is = ap (slice_get g.ports) place ∙ there.1 in
+      let is = ap (numbered g.ports) h.1 ∙ there.1 in
       ap (λ o. unwrap_or (option_map (λ p. distance_within g (suc n) p.feed + 1) o) 0) is
       ∙ ap (λ d. d + 1) (distance_more n there.0.feed there.2)
       ∙ sym (ap (λ o. unwrap_or (option_map (λ p. distance_within g n p.feed + 1) o) 0) is)
@@ -85,8 +86,7 @@ module _ (g : GraphTree) where
   distance_bound (suc n) (feed.TheVariants.Out port out) h =
       let P : PortTree → Type 0 = λ p. EndsWithin g n p.feed in
       let there = of_some P (slice_get g.ports h.0) h.2 in
-      let place : port - 1 ≡ h.0 = omega (arith, h.1) in
-      let is = ap (slice_get g.ports) place ∙ there.1 in
+      let is = ap (numbered g.ports) h.1 ∙ there.1 in
       let e = ap (λ o. unwrap_or (option_map (λ p. distance_within g n p.feed + 1) o) 0) is in
       omega (arith, e, distance_bound n there.0.feed there.2)
 
@@ -104,9 +104,10 @@ module _ (g : GraphTree) where
   source_chain zero port out q h is = absurd h
   source_chain (suc m) port out q h is =
       let place : port - 1 ≡ h.0 = omega (arith, h.1) in
+      let number = numbered_place g.ports port (omega (arith, h.1)) ∙ is in
       let ends = some_is (λ p. EndsWithin g m p.feed) (slice_get g.ports h.0) q (sym (ap (slice_get g.ports) place) ∙ is) h.2 in (
-        ap (λ o. unwrap_or (option_map (λ p. distance_within g m p.feed + 1) o) 0) is ∙ ap (λ d. d + 1) (sym (distance_more m q.feed ends)),
-        ap (λ o. unwrap_or (option_map (λ p. passed_on p (stream_within g m p.feed) out) o) (record { period = 0; start = 0 })) is ∙ ap (λ s. passed_on q s out) (sym (stream_more m q.feed ends)),
+        ap (λ o. unwrap_or (option_map (λ p. distance_within g m p.feed + 1) o) 0) number ∙ ap (λ d. d + 1) (sym (distance_more m q.feed ends)),
+        ap (λ o. unwrap_or (option_map (λ p. passed_on p (stream_within g m p.feed) out) o) (record { period = 0; start = 0 })) number ∙ ap (λ s. passed_on q s out) (sym (stream_more m q.feed ends)),
       )
 
   pub source : (k : ℕ) (p : PortTree) (port out : ℕ) → IsWellFormed g → slice_get g.ports k ≡ Some p → p.feed ≡ Out port out → (q : PortTree) × IsSource p port out q

@@ -1,9 +1,11 @@
 -- The outs of a port one after the other, and their first fault.
 use Rattle.std.proofs.Common.{◌≡◌, ℕ, zero, suc, ◌+◌, ◌-◌, ◌*◌, ◌/◌, ◌<◌, ◌≤◌, ◌⊎◌, inl, inr, Bool, true, false, ◌||◌, ◌==◌, List, [], ◌∷◌, ◌++◌, length, drop, Option, None, Some, refl, sym, ap, ◌∙◌, subst, arith}
-use Rattle.std.specs.Prelude.{nat_lt, if◌then◌else◌, slice_get, slice_index}
+use Rattle.std.specs.Prelude.{nat_lt, if◌then◌else◌, slice_get}
 use Rattle.std.specs.Option.{option_map, unwrap_or}
 use Rattle.std.proofs.Math.Seq.{drop-length}
 use Rattle.std.proofs.lemmas.Bool.Decides.{nat_tests}
+use Rattle.yt_list.specs.Numbered.{numbered, numbered_or}
+use Rattle.yt_list.proofs.Lemmas.{numbered_next, numbered_place}
 use Rattle.yt_graph.specs.declared.port.OutHead.{OutHead}
 use Rattle.yt_graph.specs.Picture.{PortTree}
 use Rattle.yt_graph.specs.Cost.{greatest_sends}
@@ -23,8 +25,7 @@ same_stream s t a b = λ i. record { period = a i; start = b i }
 -- the `every` of an out by its place
 pub every_is : (p : PortTree) (i : ℕ) (o : OutHead) → slice_get p.outs i ≡ Some o → every_of p (i + 1) ≡ o.every
 every_is p i o there =
-    let place : i + 1 - 1 ≡ i = omega arith in
-    ap (λ k. unwrap_or (option_map (λ o. o.every) (slice_get p.outs k)) 1) place ∙ ap (λ o. unwrap_or (option_map (λ o. o.every) o) 1) there
+    ap (λ o. unwrap_or (option_map (λ o. o.every) o) 1) (numbered_next p.outs i ∙ there)
 
 -- what an out passes on, by the numbers that it is made of
 pub passed_is : (p : PortTree) (s t : Stream) (i : ℕ) (o : OutHead) (sends : ℕ) → slice_get p.outs i ≡ Some o → sends ≡ greatest_sends p (i + 1) → t.period ≡ o.every * s.period / sends → t.start ≡ s.start + s.period + (sends - 1) * (o.every * s.period / sends) → t ≡ passed_on p s (i + 1)
@@ -35,10 +36,11 @@ passed_is p s t i o sends there n period start =
     (start ∙ ap (λ m. s.start + s.period + (sends - 1) * (m * s.period / sends)) e ∙ ap (λ k. s.start + s.period + (k - 1) * (every_of p (i + 1) * s.period / k)) n)
 
 -- what is kept of a port's sends is their greatest number
-pub sends_is : (codes : List PortCode) (number : ℕ) (p : PortTree) (out n : ℕ) → 1 ≤ number → number ≤ length codes → ForCode codes number (λ kept. AreSendsOf p kept.sends) → ForCode codes number (λ kept. n ≡ slice_index kept.sends (out - 1)) → 1 ≤ out → out ≤ length p.outs → n ≡ greatest_sends p out
+pub sends_is : (codes : List PortCode) (number : ℕ) (p : PortTree) (out n : ℕ) → 1 ≤ number → number ≤ length codes → ForCode codes number (λ kept. AreSendsOf p kept.sends) → ForCode codes number (λ kept. n ≡ numbered_or kept.sends out 0) → 1 ≤ out → out ≤ length p.outs → n ≡ greatest_sends p out
 sends_is codes number p out n first last kept is low high =
     let at = item_at codes (number - 1) (omega (arith, first, last)) in
-    is at.0 at.1 ∙ (kept at.0 at.1).each out low high
+    let there = numbered_place codes number first ∙ at.1 in
+    is at.0 there ∙ (kept at.0 there).each out low high
 
 module _ (number : ℕ) (p : PortTree) (s : Stream) where
   -- what is decided at an out, by its two tests
@@ -123,13 +125,13 @@ at_push [] x = refl
 at_push (y ∷ xs) x = at_push xs x
 
 -- what is passed on so far, with one more out
-pub passed_more : (p : PortTree) (s t : Stream) (outs more : List Stream) (n : ℕ) → length outs ≡ n → t ≡ passed_on p s (n + 1) → more ≡ outs ++ t ∷ [] → ((out : ℕ) → 1 ≤ out → out ≤ n → slice_get outs (out - 1) ≡ Some (passed_on p s out)) → (out : ℕ) → 1 ≤ out → out ≤ n + 1 → slice_get more (out - 1) ≡ Some (passed_on p s out)
+pub passed_more : (p : PortTree) (s t : Stream) (outs more : List Stream) (n : ℕ) → length outs ≡ n → t ≡ passed_on p s (n + 1) → more ≡ outs ++ t ∷ [] → ((out : ℕ) → 1 ≤ out → out ≤ n → numbered outs out ≡ Some (passed_on p s out)) → (out : ℕ) → 1 ≤ out → out ≤ n + 1 → numbered more out ≡ Some (passed_on p s out)
 passed_more p s t outs more n count is pushed each out low high =
     elim (last_or_less out n high) [
       | inl h ↦
           let place : out - 1 ≡ length outs = omega (arith, h, count) in
-          ap (λ l. slice_get l (out - 1)) pushed ∙ ap (slice_get (outs ++ t ∷ [])) place ∙ at_push outs t ∙ ap Some is ∙ ap (λ k. Some (passed_on p s k)) (sym h)
-      | inr h ↦ ap (λ l. slice_get l (out - 1)) pushed ∙ before_push outs t (out - 1) (omega (arith, low, h, count)) ∙ each out low h
+          ap (λ l. numbered l out) pushed ∙ numbered_place (outs ++ t ∷ []) out low ∙ ap (slice_get (outs ++ t ∷ [])) place ∙ at_push outs t ∙ ap Some is ∙ ap (λ k. Some (passed_on p s k)) (sym h)
+      | inr h ↦ ap (λ l. numbered l out) pushed ∙ numbered_place (outs ++ t ∷ []) out low ∙ before_push outs t (out - 1) (omega (arith, low, h, count)) ∙ sym (numbered_place outs out low) ∙ each out low h
     ]
 
 pub within_more : (p : PortTree) (s t : Stream) (n : ℕ) → 1 ≤ greatest_sends p (n + 1) → t ≡ passed_on p s (n + 1) → 1 ≤ t.period → t.start ≤ 4000000 → ArePassedWithin p s n → ArePassedWithin p s (n + 1)

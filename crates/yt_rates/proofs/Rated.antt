@@ -8,6 +8,8 @@ use Rattle.std.proofs.lemmas.Bool.Decides.{nat_tests}
 use Rattle.std.proofs.lemmas.List.{length-set}
 use Rattle.std.proofs.lemmas.List.Elements.{All-get_or}
 use Rattle.std.proofs.lemmas.Option.{same_Some, slice_get-map, slice_get_read, slice_get_within, get_or_from_slice_get}
+use Rattle.yt_list.specs.Numbered.{numbered}
+use Rattle.yt_list.proofs.Lemmas.{numbered_next, numbered_place, numbered_there}
 use Rattle.yt_graph.specs.declared.graph.Input.{Input}
 use Rattle.yt_graph.specs.declared.port.Feed as feed
 use Rattle.yt_graph.specs.declared.port.Feed.{Feed}
@@ -18,9 +20,9 @@ use Rattle.yt_cost.proofs.Lemmas.{fine_port, drop_at}
 use Rattle.yt_rates.specs.declared.stream.Stream.{Stream}
 use Rattle.yt_rates.specs.declared.fault.RateFault.{RateFault}
 use Rattle.yt_rates.specs.declared.fault.RateFault.TheVariants.{Over, Zero, Span, Memory}
-use Rattle.yt_rates.specs.Rates.{stream_within, stream_of, distance_of, period_of, start_of}
+use Rattle.yt_rates.specs.Rates.{passed_on, stream_within, stream_of, distance_of, period_of, start_of}
 use Rattle.yt_rates.specs.Faults.{ArePassedWithin, IsWithinRates, IsFaultOf, outs_fault, stream_fault, port_fault, fault_at, fault_from}
-use Rattle.yt_rates.specs.Tables.{PortRates, ArePassedOn, AreRatesOf, IsRated, AreRated, IsKnown}
+use Rattle.yt_rates.specs.Tables.{PortRates, ArePassedOn, AreRatesOf, IsKeptWithin, IsRated, AreRated, IsKnown}
 use Rattle.yt_rates.proofs.Chains.{of_some, source, near}
 use Rattle.yt_rates.proofs.Lists.{item_at, all_at, written_here, written_there}
 
@@ -46,8 +48,8 @@ equal n m e = grind (arith, nat_tests)
 pub known_out : (g : GraphTree) (table : List PortRates) (f : Feed) (s : Stream) (port out : ℕ) (kept : PortRates) (outs : List Stream) → f ≡ Out port out → IsKnown g table f s → kept ≡ get_or table (port - 1) kept → outs ≡ kept.outs → slice_get outs (out - 1) ≡ Some s
 known_out g table f s port out kept outs fed known is same =
     let h = subst (λ f. IsKnown g table f s) fed known in
-    let there = slice_get_read table (length table) (port - 1) kept refl (omega (arith, h.0, h.1)) is in
-    ap (λ l. slice_get l (out - 1)) same ∙ h.3 kept there
+    let there = numbered_place table port h.0 ∙ slice_get_read table (length table) (port - 1) kept refl (omega (arith, h.0, h.1)) is in
+    ap (λ l. slice_get l (out - 1)) same ∙ sym (numbered_place kept.outs out h.2) ∙ h.3 kept there
 
 -- the messages that come to a port, where the ports nearer to the input are rated: the table knows them, and they are within their limits
 pub record IsComing (g : GraphTree) (p : PortTree) (table : List PortRates) : Type 0 where
@@ -63,12 +65,12 @@ module _ (g : GraphTree) (k : ℕ) (p : PortTree) (table : List PortRates) (well
       let input_at = of_some (λ i. i.width ≡ p.params) (slice_get g.inputs width.0) width.2 in
       let lt : input - 1 < length g.inputs = omega (arith, place, slice_get_within g.inputs width.0 input_at.0 input_at.1) in
       let at = item_at g.inputs (input - 1) lt in
-      let stream : stream_of g p ≡ record { period = unwrap_or (option_map (λ i. i.period) (slice_get g.inputs (input - 1))) 0; start = 0 } = ap (stream_within g (length g.ports)) fed in
-      let period : (i : Input) → slice_get g.inputs (input - 1) ≡ Some i → i.period ≡ period_of g p = λ i is. sym (ap (λ s. s.period) stream ∙ ap (λ o. unwrap_or (option_map (λ i. i.period) o) 0) is) in
+      let stream : stream_of g p ≡ record { period = unwrap_or (option_map (λ i. i.period) (numbered g.inputs input)) 0; start = 0 } = ap (stream_within g (length g.ports)) fed in
+      let period : (i : Input) → numbered g.inputs input ≡ Some i → i.period ≡ period_of g p = λ i is. sym (ap (λ s. s.period) stream ∙ ap (λ o. unwrap_or (option_map (λ i. i.period) o) 0) is) in
       let fine = subst IsFineInput (get_or_from_slice_get g.inputs (input - 1) at.0 at.0 at.1) (All-get_or IsFineInput g.inputs (input - 1) at.0 lt well.each_input) in
       record {
         known = subst (λ f. IsKnown g table f (stream_of g p)) (sym fed) (omega (arith, width.1), omega (arith, lt, width.1), λ i is. (period i is, ap (λ s. s.start) stream));
-        period = subst (λ n. 1 ≤ n) (period at.0 at.1) fine.2.0;
+        period = subst (λ n. 1 ≤ n) (period at.0 (numbered_place g.inputs input (omega (arith, width.1)) ∙ at.1)) fine.2.0;
         start = omega (arith, ap (λ s. s.start) stream);
       }
   from (feed.TheVariants.Out port out) fed =
@@ -79,8 +81,8 @@ module _ (g : GraphTree) (k : ℕ) (p : PortTree) (table : List PortRates) (well
       let lt : port - 1 < length table = omega (arith, rated.count, is.some_port, is.last_port) in
       let at = item_at table (port - 1) lt in
       let kept = rated.nearer (port - 1) q is.there near at.0 at.1 in
-      let passes : (r : PortRates) → slice_get table (port - 1) ≡ Some r → slice_get r.outs (out - 1) ≡ Some (stream_of g p) =
-      λ r r_is. (rated.nearer (port - 1) q is.there near r r_is).rates.outs.each out is.some_out is.last_out ∙ ap Some (sym is.stream) in
+      let passes : (r : PortRates) → numbered table port ≡ Some r → numbered r.outs out ≡ Some (stream_of g p) =
+      λ r r_is. (rated.nearer (port - 1) q is.there near r (numbered_there table port r r_is).1).rates.outs.each out is.some_out is.last_out ∙ ap Some (sym is.stream) in
       record {
         known = subst (λ f. IsKnown g table f (stream_of g p)) (sym fed) (is.some_port, omega (arith, lt, is.some_port), is.some_out, passes);
         period = subst (λ s. 1 ≤ s.period) (sym is.stream) (kept.limits.outs.gap out is.some_out is.last_out);
@@ -101,6 +103,21 @@ rated_port g p table s outs comes is le passed within = record {
     outs = subst (λ s. ArePassedWithin p s (length p.outs)) is within;
   };
 }
+
+-- what is kept of a rated port is within the limits
+pub kept_within : (g : GraphTree) (p : PortTree) (kept : PortRates) → IsRated g p kept → IsKeptWithin kept
+kept_within g p kept is = record {
+  some_period = subst (λ s. 1 ≤ s.period) (sym is.rates.stream) is.limits.some_period;
+  period = subst (λ s. s.period ≤ 1000000) (sym is.rates.stream) is.limits.period;
+  start = subst (λ s. s.start ≤ 4000000) (sym is.rates.stream) is.limits.start;
+  gaps = all_at (λ s. 1 ≤ s.period) kept.outs (λ k s at. let o = passed k s at in subst (λ s. 1 ≤ s.period) (sym o.1) (is.limits.outs.gap (k + 1) (omega arith) o.0));
+  reaches = all_at (λ s. s.start ≤ 4000000) kept.outs (λ k s at. let o = passed k s at in subst (λ s. s.start ≤ 4000000) (sym o.1) (is.limits.outs.reach (k + 1) (omega arith) o.0));
+}
+  where
+    passed : (k : ℕ) (s : Stream) → slice_get kept.outs k ≡ Some s → (k + 1 ≤ length p.outs) × (s ≡ passed_on p (stream_of g p) (k + 1))
+    passed k s at =
+        let last : k + 1 ≤ length p.outs = omega (arith, is.rates.outs.count, slice_get_within kept.outs k s at) in
+        (last, same_Some s (passed_on p (stream_of g p) (k + 1)) (sym at ∙ (sym (numbered_next kept.outs k) ∙ is.rates.outs.each (k + 1) (omega arith) last)))
 
 -- the fault of a port whose period is within its limit is that of its outs
 pub outs_decide : (g : GraphTree) (number : ℕ) (p : PortTree) (s : Stream) (o : Option RateFault) → s ≡ stream_of g p → s.period ≤ 1000000 → outs_fault number p s 1 p.outs ≡ o → port_fault g number p ≡ o
@@ -220,12 +237,17 @@ module _ (g : GraphTree) where
     each_rated k p at r is = h.nearer k p at (omega (arith, far, near g k p well at)) r is
 
     pub all_rated : AreRatesOf g table
-    all_rated = record { count = h.count; each = λ port p at r is. (each_rated (port - 1) p at r is).rates }
+    all_rated = record { count = h.count; each = λ port p at r is. (each_rated (port - 1) p (numbered_there g.ports port p at).1 r (numbered_there table port r is).1).rates }
 
     pub all_within : All (IsWithinRates g) g.ports
     all_within = all_at (IsWithinRates g) g.ports (λ k p at.
         let r = item_at table k (omega (arith, h.count, slice_get_within g.ports k p at)) in
         (each_rated k p at r.0 r.1).limits)
+
+    pub all_kept : All IsKeptWithin table
+    all_kept = all_at IsKeptWithin table (λ k r is.
+        let at = item_at g.ports k (omega (arith, h.count, slice_get_within table k r is)) in
+        kept_within g at.0 r (each_rated k at.0 at.1 r is))
 
 -- the fault that decides
 pub decides : (o : Option RateFault) (fault : RateFault) → o ≡ Some fault → IsFaultOf o fault

@@ -8,7 +8,7 @@ use Rattle.yt_cost.specs.Codes.{PortCode, AreCodesOf}
 use Rattle.yt_cost.specs.Faults.{IsWithinLimits}
 use Rattle.yt_set.specs.declared.task.Task.{Task}
 use Rattle.yt_set.specs.Tasks.{Fits, hyperperiod}
-use Rattle.yt_fits.specs.Loads.{most_multiple}
+use Rattle.yt_fits.specs.Loads.{hyperperiod_limit}
 use Rattle.yt_fits.specs.Unfits.{IsReason, IsUnfit}
 use Rattle.yt_rates.specs.declared.fault.RateFault as fault
 use Rattle.yt_rates.specs.declared.fault.RateFault.{RateFault}
@@ -24,13 +24,12 @@ pub record Parts : Type 0 where
   pub rates : List PortRates
   pub set : List Task
 
--- the rates and the tasks are the graph's, the rates are within their limits, and the tasks fit, with a hyperperiod of 2^100 at
--- most
+-- the rates and the tasks are the graph's, the rates are within their limits, and the tasks fit, with a hyperperiod within its limit
 pub record IsFitting (g : GraphTree) (table : List PortRates) (tasks : List Task) : Type 0 where
   pub rates : AreRatesOf g table
   pub limits : All (IsWithinRates g) g.ports
   pub set : tasks ≡ tasks_of g
-  pub narrow : hyperperiod tasks ≤ most_multiple
+  pub narrow : hyperperiod tasks ≤ hyperperiod_limit tasks
   pub fits : Fits tasks
 
 -- the graph is well formed, the codes are the graph's and within their limits, and its rates and tasks fit

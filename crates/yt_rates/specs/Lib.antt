@@ -1,6 +1,6 @@
-pub mod Acceptance
-pub mod Faults
-pub mod Laws
 pub mod Limits
 pub mod Rates
+pub mod Laws
+pub mod Faults
 pub mod Tables
+pub mod Acceptance

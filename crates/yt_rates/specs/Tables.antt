@@ -1,11 +1,15 @@
 -- What is kept of the rates of a graph.
-use Rattle.std.specs.Prelude.{◌≡◌, ℕ, ◌-◌, ◌<◌, ◌≤◌, List, length, map, slice_get, Some}
+use Rattle.std.specs.Prelude.{◌≡◌, ℕ, ◌<◌, ◌≤◌, List, length, map, slice_get, Some}
+use Rattle.std.specs.List.{All}
 use Rattle.std.specs.Option.{ForSome}
+use Rattle.yt_list.specs.Numbered.{numbered}
 use Rattle.yt_graph.specs.declared.port.Feed as feed
 use Rattle.yt_graph.specs.declared.port.Feed.{Feed}
 use Rattle.yt_graph.specs.Picture.{PortTree, GraphTree}
 use Rattle.yt_graph.specs.Cost.{greatest_cost}
 use Rattle.yt_set.specs.declared.task.Task.{Task}
+use Rattle.yt_set.specs.Limits.{most_ticks}
+use Rattle.yt_rates.specs.Limits.{most_reach}
 use Rattle.yt_rates.specs.declared.stream.Stream.{Stream}
 use Rattle.yt_rates.specs.Rates.{passed_on, stream_of, distance_of, period_of}
 use Rattle.yt_rates.specs.Faults.{IsWithinRates}
@@ -15,14 +19,22 @@ pub record PortRates : Type 0 where
   pub stream : Stream
   pub outs : List Stream
 
+-- what is kept of a port is within the limits: the period of the messages that come to it, and the time within which they come of the input's; and, of what each out passes on, the gap and the reach
+pub record IsKeptWithin (kept : PortRates) : Type 0 where
+  pub some_period : 1 ≤ kept.stream.period
+  pub period : kept.stream.period ≤ most_ticks
+  pub start : kept.stream.start ≤ most_reach
+  pub gaps : All (λ s. 1 ≤ s.period) kept.outs
+  pub reaches : All (λ s. s.start ≤ most_reach) kept.outs
+
 -- a fact about what is kept of the port with this number, from 1
 abbrev pub ForRates : List PortRates → ℕ → (PortRates → Type 0) → Type 0
-ForRates rates port P = ForSome (slice_get rates (port - 1)) P
+ForRates rates port P = ForSome (numbered rates port) P
 
 -- the messages that each out of a port passes on, by place from 0, for those that come to the port
 pub record ArePassedOn (port : PortTree) (stream : Stream) (outs : List Stream) : Type 0 where
   pub count : length outs ≡ length port.outs
-  pub each : (out : ℕ) → 1 ≤ out → out ≤ length port.outs → slice_get outs (out - 1) ≡ Some (passed_on port stream out)
+  pub each : (out : ℕ) → 1 ≤ out → out ≤ length port.outs → numbered outs out ≡ Some (passed_on port stream out)
 
 -- the numbers that are kept are the port's
 pub record IsRatesOf (g : GraphTree) (port : PortTree) (kept : PortRates) : Type 0 where
@@ -32,7 +44,7 @@ pub record IsRatesOf (g : GraphTree) (port : PortTree) (kept : PortRates) : Type
 -- each port has its rates under its number
 pub record AreRatesOf (g : GraphTree) (rates : List PortRates) : Type 0 where
   pub count : length rates ≡ length g.ports
-  pub each : (port : ℕ) → ForSome (slice_get g.ports (port - 1)) (λ p. ForRates rates port (IsRatesOf g p))
+  pub each : (port : ℕ) → ForSome (numbered g.ports port) (λ p. ForRates rates port (IsRatesOf g p))
 
 -- a port's rates are kept, and are within their limits
 pub record IsRated (g : GraphTree) (port : PortTree) (kept : PortRates) : Type 0 where
@@ -48,9 +60,9 @@ pub record AreRated (g : GraphTree) (distance place : ℕ) (table : List PortRat
 -- what the table and the graph's inputs say of the messages of a feed
 abbrev pub IsKnown : GraphTree → List PortRates → Feed → Stream → Type 0
 IsKnown g table (feed.TheVariants.Input input) s =
-    (1 ≤ input) × (input ≤ length g.inputs) × ForSome (slice_get g.inputs (input - 1)) (λ i. (i.period ≡ s.period) × (s.start ≡ 0))
+    (1 ≤ input) × (input ≤ length g.inputs) × ForSome (numbered g.inputs input) (λ i. (i.period ≡ s.period) × (s.start ≡ 0))
 IsKnown g table (feed.TheVariants.Out port out) s =
-    (1 ≤ port) × (port ≤ length table) × (1 ≤ out) × ForSome (slice_get table (port - 1)) (λ kept. slice_get kept.outs (out - 1) ≡ Some s)
+    (1 ≤ port) × (port ≤ length table) × (1 ≤ out) × ForSome (numbered table port) (λ kept. numbered kept.outs out ≡ Some s)
 
 -- the task that a port is: its greatest cost, its period and its resource
 abbrev pub task_of : GraphTree → PortTree → Task

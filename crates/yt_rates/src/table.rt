@@ -1,6 +1,9 @@
 //! What is kept of a graph's rates.
-ghost use Rattle.std.specs.Prelude.{◌≡◌, ◌-◌, ◌≤◌, length, Some, slice_get, IsSomeAnd};
-ghost use Rattle.yt_rates.specs.Tables.{ForRates};
+ghost use Rattle.std.specs.Prelude.{◌≡◌, ◌≤◌, length, IsSomeAnd};
+ghost use Rattle.std.specs.List.{All};
+ghost use Rattle.yt_list.specs.Numbered.{numbered};
+ghost use Rattle.yt_set.specs.Limits.{most_ticks};
+ghost use Rattle.yt_rates.specs.Tables.{ForRates, IsKeptWithin};
 
 use crate::stream::Stream;
 use arrayvec::ArrayVec;
@@ -34,27 +37,33 @@ pub struct RateTable {
 
 impl Model for RateTable {
     ghost use Rattle.std.specs.Prelude.{List};
-    ghost use Rattle.yt_rates.specs.Tables.{PortRates};
+    ghost use Rattle.std.specs.List.{All};
+    ghost use Rattle.yt_rates.specs.Tables.{PortRates, IsKeptWithin};
 
     ghost Value = { List PortRates };
 
     ghost view = { λ r. r.ports.items };
+
+    ghost invariant = { λ r. All IsKeptWithin r.ports.items };
 }
 
 impl RateTable {
-    /// The rates of ports in order.
+    /// The rates of ports in order, which are within their limits.
     pub(crate) fn new(ports: Vec<Kept>) -> Self
+        requires { All IsKeptWithin ports.items }
         ensures { result ≡ ports.items }
     {
         RateTable { ports }
     }
 
-    /// The least time between two messages at the port of this number, from 1, in ticks. The caller shows that the port is
-    /// there.
+    /// The least time between two messages at the port of this number, from 1, in ticks: from 1 to 1,000,000, whatever the rates. The
+    /// caller shows that the port is there.
     pub fn period(&self, port: u32) -> u64
         requires first { 1 ≤ port }
         requires last { port ≤ length self.now }
-        ensures { ForRates self.now port (λ kept. result ≡ kept.stream.period) }
+        ensures value { ForRates self.now port (λ kept. result ≡ kept.stream.period) }
+        ensures positive { 1 ≤ result }
+        ensures short { result ≤ most_ticks }
     {
         self.ports[port as usize - 1].stream.period
     }
@@ -66,7 +75,7 @@ impl RateTable {
         requires last { port ≤ length self.now }
         requires first_out { 1 ≤ out }
         requires last_out { ForRates self.now port (λ kept. out ≤ length kept.outs) }
-        ensures { ForRates self.now port (λ kept. IsSomeAnd (slice_get kept.outs (out - 1)) (λ s. result ≡ s.period)) }
+        ensures { ForRates self.now port (λ kept. IsSomeAnd (numbered kept.outs out) (λ s. result ≡ s.period)) }
     {
         self.ports[port as usize - 1].outs[out as usize - 1].period
     }

@@ -14,19 +14,18 @@ use std::marker::Model;
 pub struct Ready {
     /// Each entry comes before those in front of it, so the least is the last.
     entries: Vec<Entry>,
-    room: usize,
 }
 
 impl Model for Ready {
-    ghost use Rattle.std.specs.Prelude.{◌-◌, ◌≤◌, vec_len, vec_capacity};
+    ghost use Rattle.std.specs.Prelude.{◌-◌, vec_len, vec_capacity};
     ghost use Rattle.yt_ready.specs.Order.{IsFalling};
     ghost use Rattle.yt_ready.specs.Waiting.{Waiting};
 
     ghost Value = { Waiting };
 
-    ghost view = { λ r. record { entries = r.entries.items; spare = r.room - vec_len r.entries } };
+    ghost view = { λ r. record { entries = r.entries.items; spare = vec_capacity r.entries - vec_len r.entries } };
 
-    ghost invariant = { λ r. IsFalling r.entries.items × (vec_len r.entries ≤ r.room) × (r.room ≤ vec_capacity r.entries) };
+    ghost invariant = { λ r. IsFalling r.entries.items };
 }
 
 impl Ready {
@@ -34,15 +33,16 @@ impl Ready {
     pub fn with_room(alloc: Global, n: usize) -> Result<Self, AllocError>
         ensures { IfOk result (λ ready. ready ≡ record { entries = []; spare = n }) }
     {
-        let entries = Vec::with_capacity(alloc, n)?;
-        Ok(Ready { entries, room: n })
+        Ok(Ready {
+            entries: Vec::with_capacity(alloc, n)?,
+        })
     }
 
     /// How many more entries there is room for.
     pub fn spare(&self) -> usize
         ensures { result ≡ self.now.spare }
     {
-        self.room - self.entries.len()
+        self.entries.capacity() - self.entries.len()
     }
 
     /// Adds an entry, in constant time where none comes before it, else with as many comparisons as the entries can be halved,

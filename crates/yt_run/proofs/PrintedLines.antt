@@ -128,7 +128,7 @@ end_fields time = codes "end" ∷ decimal time ∷ []
 module _ (graph : GraphTree) (names : HasReadableNames graph) (s : Segment) (told : IsReadableSegment (length graph.ports) s) where
   pub line_fields-segment_line : (rest : List ℕ) → line_fields (segment_line (port_label graph s.job.task) s ++ rest) ≡ segment_fields graph s ∷ line_fields rest
   line_fields-segment_line rest =
-      let label : list_all stays_in_word (port_label graph s.job.task) ≡ true = name-stays_in_word label_of graph.ports no_port s.job.task names.ports told.job.from_one told.job.in_set in
+      let label : list_all stays_in_word (port_label graph s.job.task) ≡ true = name-stays_in_word label_of graph.ports no_port names.ports s.job.task told.job.from_one told.job.in_set in
       run_line-fields (decimal s.from) (decimal s.to) (port_label graph s.job.task) (decimal s.job.number) rest
       (decimal-stays_in_word s.from told.from) (decimal-stays_in_word s.to told.to) label (decimal-stays_in_word s.job.number told.job.number)
 
@@ -137,21 +137,21 @@ module _ (graph : GraphTree) (names : HasReadableNames graph) (s : Segment) (tol
       let from : value_of (decimal s.from) ≡ s.from = value_of-decimal s.from (omega arith) in
       let to : value_of (decimal s.to) ≡ s.to = value_of-decimal s.to (omega arith) in
       let number : value_of (decimal s.job.number) ≡ s.job.number = value_of-decimal s.job.number (omega arith) in
-      let task : number_in (map label_of graph.ports) (port_label graph s.job.task) ≡ s.job.task = number_in-name label_of graph.ports no_port s.job.task names.ports told.job.from_one told.job.in_set in
+      let task : number_in (map label_of graph.ports) (port_label graph s.job.task) ≡ s.job.task = number_in-name label_of graph.ports no_port names.ports s.job.task told.job.from_one told.job.in_set in
       rw (from, to, number, task) refl
 
 -- the line of an output line, read
 module _ (graph : GraphTree) (names : HasReadableNames graph) (l : OutLine) (told : IsReadableLine (length graph.outputs) l) where
   pub line_fields-out_line : (rest : List ℕ) → line_fields (out_line graph l ++ rest) ≡ out_fields graph l ∷ line_fields rest
   line_fields-out_line rest =
-      let name : list_all stays_in_word (output_name graph l.output) ≡ true = name-stays_in_word (λ (o : Output). o.name) graph.outputs no_output l.output names.outputs told.from_one told.in_set in
+      let name : list_all stays_in_word (output_name graph l.output) ≡ true = name-stays_in_word (λ (o : Output). o.name) graph.outputs no_output names.outputs l.output told.from_one told.in_set in
       out_line-fields (decimal l.time) (output_name graph l.output) l.values rest (decimal-stays_in_word l.time told.time) name told.values
 
   pub read_out-out_fields : read_out graph (out_fields graph l) ≡ Some l
   read_out-out_fields =
       let time : value_of (decimal l.time) ≡ l.time = value_of-decimal l.time (omega arith) in
       let output : number_in (map (λ (o : Output). o.name) graph.outputs) (output_name graph l.output) ≡ l.output =
-      number_in-name (λ (o : Output). o.name) graph.outputs no_output l.output names.outputs told.from_one told.in_set in
+      number_in-name (λ (o : Output). o.name) graph.outputs no_output names.outputs l.output told.from_one told.in_set in
       let values : values_in (map signed_decimal l.values) ≡ l.values = values_in-signed_decimal l.values told.values in
       rw (time, output, values) refl
 

@@ -1,10 +1,12 @@
 -- Names that can be read back from a text, and the numbers that are read for them.
-use Rattle.std.proofs.Common.{ℕ, suc, zero, ◌≡◌, ◌≢◌, ◌<◌, ◌≤◌, ◌-◌, ◌==◌, List, [], ◌∷◌, map, length, get_or, true, false, refl, arith}
+use Rattle.std.proofs.Common.{ℕ, suc, zero, ◌≡◌, ◌≢◌, ◌<◌, ◌≤◌, ◌==◌, List, [], ◌∷◌, map, length, get_or, true, false, refl, sym, ap, subst, ◌∙◌, arith}
 use Rattle.std.specs.List.{AllPairs, list_all}
 use Rattle.std.specs.Prelude.{bytes_eq}
 use Rattle.std.proofs.lemmas.Bool.{false_from_ne_true}
 use Rattle.std.proofs.lemmas.List.{get_or-map, length-map}
+use Rattle.std.proofs.lemmas.Option.{unwrap_or-slice_get}
 use Rattle.std.proofs.lemmas.Slice.Eq.{bytes_eq-Decides}
+use Rattle.yt_list.specs.Numbered.{numbered_or}
 use Rattle.yt_run.specs.Readable.{stays_in_word, AreDistinctWords}
 use Rattle.yt_run.specs.RunText.{number_in}
 
@@ -20,16 +22,19 @@ number_in-at (name ∷ names) (suc k) different within =
     let some : (suc k == 0) ≡ false = grind arith in
     rw (other, more, some) refl
 
--- the number of a thing's name is its own
-pub number_in-name : {X : Type 0} (name_of : X → List ℕ) (things : List X) (d : X) (number : ℕ) → AreDistinctWords (map name_of things) → 1 ≤ number → number ≤ length things → number_in (map name_of things) (name_of (get_or things (number - 1) d)) ≡ number
-number_in-name name_of things d number apart from_one within =
-    let place : number - 1 < length things = omega arith in
-    let at = number_in-at (map name_of things) (number - 1) apart.different (omega (arith, length-map things name_of)) in
-    let number_is : suc (number - 1) ≡ number = omega arith in
-    rw number_is at (rw (get_or-map name_of things (number - 1) d [] place) at at)
+module _ {X : Type 0} (name_of : X → List ℕ) (things : List X) (d : X) (apart : AreDistinctWords (map name_of things)) where
+  -- the name of the thing of a number
+  name_at : (k : ℕ) → k < length things → get_or (map name_of things) k [] ≡ name_of (numbered_or things (suc k) d)
+  name_at k within = get_or-map name_of things k d [] within ∙ ap name_of (sym (unwrap_or-slice_get things k d))
 
--- and its name is a word
-pub name-stays_in_word : {X : Type 0} (name_of : X → List ℕ) (things : List X) (d : X) (number : ℕ) → AreDistinctWords (map name_of things) → 1 ≤ number → number ≤ length things → list_all stays_in_word (name_of (get_or things (number - 1) d)) ≡ true
-name-stays_in_word name_of things d number apart from_one within =
-    let place : number - 1 < length things = omega arith in
-    rw (get_or-map name_of things (number - 1) d [] place) at (apart.words (number - 1) [] (omega (arith, length-map things name_of)))
+  -- the number of a thing's name is its own
+  pub number_in-name : (number : ℕ) → 1 ≤ number → number ≤ length things → number_in (map name_of things) (name_of (numbered_or things number d)) ≡ number
+  number_in-name zero from_one within = absurd (omega arith)
+  number_in-name (suc k) from_one within =
+      ap (number_in (map name_of things)) (sym (name_at k (omega arith))) ∙ number_in-at (map name_of things) k apart.different (omega (arith, length-map things name_of))
+
+  -- and its name is a word
+  pub name-stays_in_word : (number : ℕ) → 1 ≤ number → number ≤ length things → list_all stays_in_word (name_of (numbered_or things number d)) ≡ true
+  name-stays_in_word zero from_one within = absurd (omega arith)
+  name-stays_in_word (suc k) from_one within =
+      subst (λ name. list_all stays_in_word name ≡ true) (name_at k (omega arith)) (apart.words k [] (omega (arith, length-map things name_of)))

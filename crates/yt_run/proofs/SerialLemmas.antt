@@ -37,7 +37,7 @@ abbrev pub cost_of : First → ℕ
 cost_of d = greatest_cost (port_of d)
 
 -- each handling takes the greatest cost
-pub handling_ticks : (d : First) (values : List ℤ) → (handling (port_of d) values []).ticks ≡ cost_of d
+pub handling_ticks : (d : First) (values : List ℤ) → (handling (graph_of d) (port_of d) values []).ticks ≡ cost_of d
 handling_ticks d values = omega arith
 
 -- a message at the port
@@ -79,9 +79,9 @@ come_same : (a b : List PortMessage) (h k : List Handled) (l m : List OutLine) �
 come_same a b h k l m p q r = cc
 
 -- the handler's one send is shown a period after its job's arrival
-shown_one : (d : First) (n : ℕ) (m : Message) → all_shown 1 (passed (graph_of d) (port_of d) (suc n) m.time (handling (port_of d) m.values []).sends) 1 (graph_of d).outputs ≡ line_of d m ∷ []
+shown_one : (d : First) (n : ℕ) (m : Message) → all_shown 1 (passed (graph_of d) (port_of d) (suc n) m.time (handling (graph_of d) (port_of d) m.values []).sends) 1 (graph_of d).outputs ≡ line_of d m ∷ []
 shown_one d n m =
-    let sends = (handling (port_of d) m.values []).sends in
+    let sends = (handling (graph_of d) (port_of d) m.values []).sends in
     let passes : ℕ → List PortMessage = passed (graph_of d) (port_of d) (suc n) m.time sends in
     let each : eqb (suc n % 1) 0 ≡ true = eq-eqb (suc n % 1) 0 (omega arith) in
     let e : passes 1 ≡ (record { time = m.time + d.period; values = sum_of d m.values ∷ [] }) ∷ [] = cond-true (eqb (suc n % 1) 0) ((record { time = m.time + d.period; values = sum_of d m.values ∷ [] }) ∷ []) [] each in
@@ -101,8 +101,8 @@ one_step d messages so_far m rest handled lines is count =
     let here : message_of job s ≡ Some (at_port m) = cond-true (eqb (suc n) (suc (jobs_of 1 (map (λ (h : Handled). h.item) handled)))) (slice_get messages n) None test ∙ found in
     let ticks = handling_ticks d m.values in
     let after : handle_message (graph_of d) job (at_port m) s ≡ come messages (handled ++ handled_one d (suc n) m ∷ []) (lines ++ line_of d m ∷ []) =
-    come_same (messages ++ []) messages (handled ++ (record { item = record { job = job; arrival = m.time; cost = (handling (port_of d) m.values []).ticks }; writes = [] }) ∷ []) (handled ++ handled_one d (suc n) m ∷ [])
-    (lines ++ all_shown 1 (passed (graph_of d) (port_of d) (suc n) m.time (handling (port_of d) m.values []).sends) 1 (graph_of d).outputs) (lines ++ line_of d m ∷ [])
+    come_same (messages ++ []) messages (handled ++ (record { item = record { job = job; arrival = m.time; cost = (handling (graph_of d) (port_of d) m.values []).ticks }; writes = [] }) ∷ []) (handled ++ handled_one d (suc n) m ∷ [])
+    (lines ++ all_shown 1 (passed (graph_of d) (port_of d) (suc n) m.time (handling (graph_of d) (port_of d) m.values []).sends) 1 (graph_of d).outputs) (lines ++ line_of d m ∷ [])
     (append-nil messages)
     (ap (λ (c : ℕ). handled ++ (record { item = record { job = job; arrival = m.time; cost = c }; writes = [] }) ∷ []) ticks)
     (ap (λ (ls : List OutLine). lines ++ ls) (shown_one d n m)) in

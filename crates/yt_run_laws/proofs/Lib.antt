@@ -1,1 +1,4 @@
+mod HandlerValues
 mod ReadableNames
+mod ReadingBack
+mod SerialValues

@@ -1,1 +1,4 @@
 pub mod ReadableNames
+pub mod Values
+pub mod KeepingValues
+pub mod ReadingBack

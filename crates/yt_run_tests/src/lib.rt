@@ -1,10 +1,8 @@
-//! Tests of channels (`yt_chan`), and of runs of graphs of one port (`yt_run`).
+//! Tests of runs of graphs of one port (`yt_run`).
 //!
-//! This crate has nothing but tests, and no crate stands on it. It knows the public calls of those crates alone. Its tests show
+//! This crate has nothing but tests, and no crate stands on it. It knows the public calls of that crate alone. Its tests show
 //! what no clause says: that a call ends well where memory suffices, and that its answer is the one worked out by hand.
 #![tactic(auto)]
 
-#[cfg(test)]
-mod channels;
 #[cfg(test)]
 mod runs;

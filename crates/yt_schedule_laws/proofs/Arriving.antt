@@ -9,10 +9,11 @@ use Rattle.yt_graph.specs.declared.graph.Output.{Output}
 use Rattle.yt_graph.specs.declared.handled.SendItem.{SendItem}
 use Rattle.yt_graph.specs.declared.port.Feed.{Feed}
 use Rattle.yt_graph.specs.declared.port.Feed.TheVariants.{Input, Out}
-use Rattle.yt_graph.specs.Cost.{greatest_sends, one_if_same, sent_on}
+use Rattle.yt_graph.specs.Cost.{greatest_sends, sent_on}
 use Rattle.yt_graph.specs.Labels.{no_port}
 use Rattle.yt_graph.specs.Meaning.{handling}
 use Rattle.yt_graph.specs.Picture.{GraphTree, PortTree}
+use Rattle.yt_graph.specs.Sends.{messages_on}
 use Rattle.yt_graph.proofs.Lemmas.{sends_within}
 use Rattle.yt_list.specs.Numbered.{numbered}
 use Rattle.yt_log.specs.declared.job.Job.{Job}
@@ -23,45 +24,35 @@ use Rattle.yt_rates.proofs.Lemmas.{source}
 use Rattle.yt_serial.specs.declared.shown.OutLine.{OutLine}
 use Rattle.yt_serial.specs.declared.trace.Message.{Message}
 use Rattle.yt_serial.specs.Limits.{most_time}
-use Rattle.yt_serial.specs.PortMessages.{PortMessage, messages_of, spaced, passed}
+use Rattle.yt_order.specs.Gaps.{at_gaps}
+use Rattle.yt_serial.specs.PortMessages.{PortMessage, arriving, messages_of, spaced, passed}
 use Rattle.yt_serial.specs.Premises.{CanRun}
 use Rattle.yt_serial.specs.SerialHandling.{Serial, messages_at, handled_of, from_outside, start, brought, shown, all_shown, port_of, handle_message, message_of, serial_step, serial_run}
 use Rattle.yt_serial.specs.Traces.{IsMessageOf}
-use Rattle.yt_serial.proofs.Lemmas.{feed_cases, placed-length, placed_at, port_there, stepped}
+use Rattle.yt_serial.proofs.Lemmas.{feed_cases, messages_on-length, placed-length, placed_at, port_there, stepped}
 
--- a message on an out leaves its gap before the end of the gaps of all sends on it
-spaced_by : (out time gap : ℕ) (sends : List SendItem) (x : PortMessage) → Has (spaced out time gap sends) x → x.time + gap ≤ time + sent_on out sends * gap
-spaced_by out time gap [] x h = absurd h
-spaced_by out time gap (s ∷ sends) x h =
-    let new : PortMessage = record { time = time; values = s.values } in
+-- a message leaves its gap before the end of the gaps of all that were sent
+gaps_by : (time gap : ℕ) (sent : List (List ℤ)) (x : PortMessage) → Has (at_gaps arriving time gap sent) x → x.time + gap ≤ time + length sent * gap
+gaps_by time gap [] x h = absurd h
+gaps_by time gap (values ∷ sent) x h =
     ⊎_elim
-    (λ (e : eqb out s.out ≡ true).
-    let one : one_if_same out s.out ≡ 1 = cond-true (eqb out s.out) 1 0 e in
-    let count : sent_on out (s ∷ sends) * gap ≡ (1 + sent_on out sends) * gap = ap (λ (n : ℕ). (n + sent_on out sends) * gap) one in
-    ⊎_elim
-    (λ (q : x ≡ new). let t : x.time ≡ time = ap (λ (m : PortMessage). m.time) q in omega arith)
-    (λ (k : Has (spaced out (time + gap) gap sends) x). let r = spaced_by out (time + gap) gap sends x k in omega arith)
-    (subst (λ (ms : List PortMessage). Has ms x) (cond-true (eqb out s.out) (new ∷ spaced out (time + gap) gap sends) (spaced out time gap sends) e) h))
-    (λ (e : eqb out s.out ≡ false).
-    let none : one_if_same out s.out ≡ 0 = cond-false (eqb out s.out) 1 0 e in
-    let count : sent_on out (s ∷ sends) * gap ≡ (0 + sent_on out sends) * gap = ap (λ (n : ℕ). (n + sent_on out sends) * gap) none in
-    let r = spaced_by out time gap sends x (subst (λ (ms : List PortMessage). Has ms x) (cond-false (eqb out s.out) (new ∷ spaced out (time + gap) gap sends) (spaced out time gap sends) e) h) in
-    omega arith)
-    (cases_Bool (eqb out s.out))
+    (λ (q : x ≡ arriving time values). let t : x.time ≡ time = ap (λ (m : PortMessage). m.time) q in omega arith)
+    (λ (k : Has (at_gaps arriving (time + gap) gap sent) x). let r = gaps_by (time + gap) gap sent x k in omega arith)
+    h
 
 all_but_one : (n gap : ℕ) → n * gap ≤ (n - 1) * gap + gap
 all_but_one zero gap = omega arith
 all_but_one (suc k) gap = let e : (suc k - 1) * gap ≡ k * gap = ap (λ (m : ℕ). m * gap) (omega arith) in omega arith
 
 -- what a feed brings of a job is what an out of its port passes on
-brought_from : (task : ℕ) (passes : ℕ → List PortMessage) (from out : ℕ) (x : PortMessage) → Has (brought task passes (Out from out)) x → (from ≡ task) × Has (passes out) x
+pub brought_from : (task : ℕ) (passes : ℕ → List PortMessage) (from out : ℕ) (x : PortMessage) → Has (brought task passes (Out from out)) x → (from ≡ task) × Has (passes out) x
 brought_from task passes from out x h =
     ⊎_elim
     (λ (e : eqb from task ≡ true). (eqb-true from task e, subst (λ (ms : List PortMessage). Has ms x) (cond-true (eqb from task) (passes out) [] e) h))
     (λ (e : eqb from task ≡ false). absurd (subst (λ (ms : List PortMessage). Has ms x) (cond-false (eqb from task) (passes out) [] e) h))
     (cases_Bool (eqb from task))
 
-passed_from : (g : GraphTree) (q : PortTree) (number arrival : ℕ) (sends : List SendItem) (out : ℕ) (x : PortMessage) → Has (passed g q number arrival sends out) x → Has (spaced out (arrival + period_of g q) (gap_of g q out) sends) x
+pub passed_from : (g : GraphTree) (q : PortTree) (number arrival : ℕ) (sends : List SendItem) (out : ℕ) (x : PortMessage) → Has (passed g q number arrival sends out) x → Has (spaced out (arrival + period_of g q) (gap_of g q out) sends) x
 passed_from g q number arrival sends out x h =
     ⊎_elim
     (λ (e : eqb (number % every_of q out) 0 ≡ true).
@@ -72,38 +63,41 @@ passed_from g q number arrival sends out x h =
 
 -- a message that a port passes on comes by the reach of the out, where that which was handled came by the port's start
 passed_by : (g : GraphTree) (q : PortTree) (number arrival : ℕ) (values vars : List ℤ) (out : ℕ) (x : PortMessage) → arrival ≤ most_time + start_of g q
-    → Has (passed g q number arrival (handling q values vars).sends out) x → x.time ≤ most_time + reach_of g q out
+    → Has (passed g q number arrival (handling g q values vars).sends out) x → x.time ≤ most_time + reach_of g q out
 passed_by g q number arrival values vars out x early h =
-    let sends = (handling q values vars).sends in
+    let sends = (handling g q values vars).sends in
     let gap = gap_of g q out in
     let most = greatest_sends q out in
-    let by = spaced_by out (arrival + period_of g q) gap sends x (passed_from g q number arrival sends out x h) in
-    let fits : sent_on out sends * gap ≤ most * gap = mul-le (sent_on out sends) gap most gap (sends_within q out values vars) (omega arith) in
+    let count = messages_on-length out sends in
+    let spans : length (messages_on out sends) * gap ≡ sent_on out sends * gap = ap (λ (n : ℕ). n * gap) count in
+    let by = gaps_by (arrival + period_of g q) gap (messages_on out sends) x (passed_from g q number arrival sends out x h) in
+    let fits : sent_on out sends * gap ≤ most * gap = mul-le (sent_on out sends) gap most gap (sends_within g q out values vars) (omega arith) in
     let last = all_but_one most gap in
     let reach : reach_of g q out ≡ start_of g q + period_of g q + (most - 1) * gap = refl in
     omega arith
 
 -- what an output shows of messages
-shown_from : (n : ℕ) (ms : List PortMessage) (l : OutLine) → Has (shown n ms) l → (x : PortMessage) × Has ms x × (l.time ≡ x.time) × (l.output ≡ n)
+shown_from : (n : ℕ) (ms : List PortMessage) (l : OutLine) → Has (shown n ms) l → (x : PortMessage) × Has ms x × (l.time ≡ x.time) × (l.output ≡ n) × (l.values ≡ x.values)
 shown_from n [] l h = absurd h
 shown_from n (m ∷ ms) l h =
     ⊎_elim
-    (λ (e : l ≡ (record { time = m.time; output = n; values = m.values })). (m, inl refl, ap (λ (x : OutLine). x.time) e, ap (λ (x : OutLine). x.output) e))
-    (λ (k : Has (shown n ms) l). let r = shown_from n ms l k in (r.0, inr r.1, r.2, r.3))
+    (λ (e : l ≡ (record { time = m.time; output = n; values = m.values })). (m, inl refl, ap (λ (x : OutLine). x.time) e, ap (λ (x : OutLine). x.output) e, ap (λ (x : OutLine). x.values) e))
+    (λ (k : Has (shown n ms) l). let r = shown_from n ms l k in (r.0, inr r.1, r.2, r.3, r.4))
     h
 
 -- a line of these outputs, numbered from n on, shows what an out of the job's port passes on
-record IsShown (task : ℕ) (passes : ℕ → List PortMessage) (n : ℕ) (outputs : List Output) (l : OutLine) : Type 0 where
-  place : ℕ
-  output : Output
-  message : PortMessage
-  there : slice_get outputs place ≡ Some output
-  number : l.output ≡ n + place
-  port : output.port ≡ task
-  passed : Has (passes output.out) message
-  time : l.time ≡ message.time
+pub record IsShown (task : ℕ) (passes : ℕ → List PortMessage) (n : ℕ) (outputs : List Output) (l : OutLine) : Type 0 where
+  pub place : ℕ
+  pub output : Output
+  pub message : PortMessage
+  pub there : slice_get outputs place ≡ Some output
+  pub number : l.output ≡ n + place
+  pub port : output.port ≡ task
+  pub passed : Has (passes output.out) message
+  pub time : l.time ≡ message.time
+  pub values : l.values ≡ message.values
 
-all_shown_from : (task : ℕ) (passes : ℕ → List PortMessage) (n : ℕ) (outputs : List Output) (l : OutLine) → Has (all_shown task passes n outputs) l → IsShown task passes n outputs l
+pub all_shown_from : (task : ℕ) (passes : ℕ → List PortMessage) (n : ℕ) (outputs : List Output) (l : OutLine) → Has (all_shown task passes n outputs) l → IsShown task passes n outputs l
 all_shown_from task passes n [] l h = absurd h
 all_shown_from task passes n (o ∷ outputs) l h =
     let part : List OutLine = cond (eqb o.port task) (shown n (passes o.out)) [] in
@@ -111,13 +105,13 @@ all_shown_from task passes n (o ∷ outputs) l h =
     (λ (k : Has part l). ⊎_elim
     (λ (e : eqb o.port task ≡ true).
     let r = shown_from n (passes o.out) l (subst (λ (ls : List OutLine). Has ls l) (cond-true (eqb o.port task) (shown n (passes o.out)) [] e) k) in
-    record { place = 0; output = o; message = r.0; there = refl; number = omega (arith, r.3); port = eqb-true o.port task e; passed = r.1; time = r.2 })
+    record { place = 0; output = o; message = r.0; there = refl; number = omega (arith, r.3); port = eqb-true o.port task e; passed = r.1; time = r.2; values = r.4 })
     (λ (e : eqb o.port task ≡ false). absurd (subst (λ (ls : List OutLine). Has ls l) (cond-false (eqb o.port task) (shown n (passes o.out)) [] e) k))
     (cases_Bool (eqb o.port task)))
     (λ (k : Has (all_shown task passes (suc n) outputs) l).
     let r = all_shown_from task passes (suc n) outputs l k in
     let number = r.number in
-    record { place = suc r.place; output = r.output; message = r.message; there = r.there; number = omega arith; port = r.port; passed = r.passed; time = r.time })
+    record { place = suc r.place; output = r.output; message = r.message; there = r.there; number = omega arith; port = r.port; passed = r.passed; time = r.time; values = r.values })
     (has_append part (all_shown task passes (suc n) outputs) l h)
 
 -- the messages of an input come by the last tick of a trace
@@ -134,17 +128,18 @@ outside_by input (m ∷ trace) by x h =
     (λ (e : eqb m.input input ≡ false). rest (subst (λ (ms : List PortMessage). Has ms x) (cond-false (eqb m.input input) (new ∷ messages_of input trace) (messages_of input trace) e) h))
     (cases_Bool (eqb m.input input))
 
-has_there : (ms : List PortMessage) (i : ℕ) (m : PortMessage) → slice_get ms i ≡ Some m → Has ms m
-has_there [] i m h = absurd (none-some m h)
-has_there (x ∷ ms) zero m h = inl (sym (same_Some x m h))
-has_there (x ∷ ms) (suc i) m h = inr (has_there ms i m h)
+has_there : {X : Type 0} (xs : List X) (i : ℕ) (x : X) → slice_get xs i ≡ Some x → Has xs x
+has_there [] i x h = absurd (none-some x h)
+has_there (y ∷ xs) zero x h = inl (sym (same_Some y x h))
+has_there (y ∷ xs) (suc i) x h = inr (has_there xs i x h)
 
-pub has_numbered : (ms : List PortMessage) (n : ℕ) (m : PortMessage) → numbered ms n ≡ Some m → Has ms m
-has_numbered ms zero m h = absurd (none-some m h)
-has_numbered ms (suc n) m h = has_there ms n m h
+-- an item has its number in a list that has it
+pub has_numbered : {X : Type 0} (xs : List X) (n : ℕ) (x : X) → numbered xs n ≡ Some x → Has xs x
+has_numbered xs zero x h = absurd (none-some x h)
+has_numbered xs (suc n) x h = has_there xs n x h
 
 -- the message of a job is at its port
-message_at : (job : Job) (s : Serial) (m : PortMessage) → message_of job s ≡ Some m → numbered (messages_at s job.task) job.number ≡ Some m
+pub message_at : (job : Job) (s : Serial) (m : PortMessage) → message_of job s ≡ Some m → numbered (messages_at s job.task) job.number ≡ Some m
 message_at job s m h =
     let there = numbered (messages_at s job.task) job.number in
     let test = eqb job.number (suc (handled_of s job.task)) in
@@ -181,7 +176,7 @@ module _ (g : GraphTree) (trace : List Message) (can : CanRun g trace) where
     q = port_of g job
 
     abbrev passes : ℕ → List PortMessage
-    passes = passed g (port_of g job) job.number m.time (handling (port_of g job) m.values s.vars).sends
+    passes = passed g (port_of g job) job.number m.time (handling g (port_of g job) m.values s.vars).sends
 
     is_port : numbered g.ports job.task ≡ Some (port_of g job)
     is_port =

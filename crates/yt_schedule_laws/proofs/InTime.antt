@@ -32,11 +32,11 @@ has_place (x ∷ xs) zero d lt = inl refl
 has_place (x ∷ xs) (suc k) d lt = inr (has_place xs k d (omega arith))
 
 -- what holds of each item that a list has
-all_has : {X : Type 0} (P : X → Type 0) (xs : List X) → ((x : X) → Has xs x → P x) → All P xs
+pub all_has : {X : Type 0} (P : X → Type 0) (xs : List X) → ((x : X) → Has xs x → P x) → All P xs
 all_has P xs each k d lt = each (get_or xs k d) (has_place xs k d lt)
 
 -- what holds of all items holds of the one at a place
-all_there : {X : Type 0} (P : X → Type 0) (xs : List X) (k : ℕ) (x : X) → All P xs → slice_get xs k ≡ Some x → P x
+pub all_there : {X : Type 0} (P : X → Type 0) (xs : List X) (k : ℕ) (x : X) → All P xs → slice_get xs k ≡ Some x → P x
 all_there P xs k x all there = subst P (get_or_from_slice_get xs k x x there) (all k x (slice_get_within xs k x there))
 
 of_some : {X : Type 0} (P : X → Type 0) (o : Option X) → IsSomeAnd o P → (x : X) × (o ≡ Some x) × P x
@@ -66,7 +66,7 @@ module _ (g : GraphTree) (trace : List Message) (order : List Job) (s : Serial) 
       let within : fine.1 < length p.outs = subst (λ (p : PortTree). fine.1 < length p.outs) same (slice_get_within port.0.outs fine.1 head.0 head.1) in
       (rated o.port p at).outs.reach o.out (omega (arith, fine.3)) (omega (arith, fine.3))
 
-  line_by : (l : OutLine) → Has s.lines l → IsLineInTime g l
+  pub line_by : (l : OutLine) → Has s.lines l → IsLineInTime g l
   line_by = (in_time g trace is.can order s is.along).lines
 
   pub line_within : (l : OutLine) → Has s.lines l → l.time ≤ most_time + most_reach

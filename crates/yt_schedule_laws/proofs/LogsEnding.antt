@@ -21,7 +21,7 @@ use Rattle.yt_serial.specs.SerialHandling.{Serial, plan_of, plan_of_log}
 use Rattle.yt_serial.specs.Told.{latest, line_before}
 use Rattle.yt_serial.proofs.Lemmas.{busy_until_le, port_task}
 use Rattle.yt_schedule_laws.specs.InTime.{LogsEnd, RunsEnd}
-use Rattle.yt_schedule_laws.specs.Limits.{most_deadline}
+use Rattle.yt_log.specs.Limits.{most_deadline}
 use Rattle.yt_schedule_laws.proofs.InTime.{line_within, of_port, rated}
 
 module _ (tasks : List Task) (plan : List PlanItem) (bound : ℕ) (due : (i : PlanItem) → Has plan i → deadline_of tasks i ≤ bound)

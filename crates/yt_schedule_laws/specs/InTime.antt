@@ -20,7 +20,7 @@ use Rattle.yt_serial.specs.SerialHandling.{Serial, messages_at, plan_of}
 use Rattle.yt_serial.specs.Told.{IsPromisedRun}
 use Rattle.yt_set.specs.declared.task.Task.{Task}
 use Rattle.yt_set.specs.Tasks.{IsTaskSet}
-use Rattle.yt_schedule_laws.specs.Limits.{most_deadline}
+use Rattle.yt_log.specs.Limits.{most_deadline}
 
 -- along each order on which serial handling is defined a port's messages come by the last tick of a trace and the port's start; each line is
 -- an output's, and comes by the last tick of a trace and the reach of the output's out, so that all lines come by tick 8,000,000; and the

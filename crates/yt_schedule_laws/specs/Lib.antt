@@ -1,4 +1,3 @@
-pub mod Limits
 pub mod LogSegments
 pub mod Begun
 pub mod Replacing

@@ -82,6 +82,18 @@ fn overloads_are_played(rt: HostRuntime) -> Result<(), Fail> {
 }
 
 #[test]
+fn a_play_goes_up_to_the_last_deadline(rt: HostRuntime) -> Result<(), Fail> {
+    let tasks = [(1_000_000, 1_000_000, 0)];
+    let jobs = [(1, 1, 0, 1), (1, 2, 8_000_000, 1_000_000)];
+    let expected = [(0, 1, 1, 1), (8_000_000, 9_000_000, 1, 2)];
+    assert_eq!(rt;
+        played(rt.alloc(), &tasks, &jobs, 9_000_000)?.as_slice(),
+        expected.as_slice()
+    );
+    Ok(())
+}
+
+#[test]
 fn equal_tasks_go_by_their_numbers(rt: HostRuntime) -> Result<(), Fail> {
     let tasks = [(5, 4, 0), (5, 4, 0)];
     let jobs = [(1, 1, 0, 5), (2, 1, 0, 5), (1, 2, 4, 5), (2, 2, 4, 5)];

@@ -1,19 +1,18 @@
 -- How many messages a run may come to.
-use Rattle.std.proofs.Common.{◌≡◌, ℕ, zero, suc, ◌+◌, ◌-◌, ◌*◌, ◌/◌, ◌%◌, ◌<◌, ◌≤◌, eqb, List, [], ◌∷◌, ◌++◌, length, slice_get, get_or, Option, None, Some, All, refl, sym, ap, subst, ◌∙◌, ⊎_elim, arith, eq-eqb, ne_eqb}
+use Rattle.std.proofs.Common.{◌≡◌, ℕ, zero, suc, ◌+◌, ◌-◌, ◌*◌, ◌/◌, ◌%◌, ◌<◌, ◌≤◌, List, [], ◌∷◌, ◌++◌, length, slice_get, get_or, Option, None, Some, All, refl, sym, ap, subst, ◌∙◌, ⊎_elim, arith}
 use Rattle.std.specs.Prelude.{IsSomeAnd}
 use Rattle.std.specs.Option.{option_map, unwrap_or}
-use Rattle.std.proofs.lemmas.Bool.{cases_eq, cases_lt, cond-true, cond-false}
+use Rattle.std.proofs.lemmas.Bool.{cases_eq, cases_lt}
 use Rattle.std.proofs.lemmas.List.{length-append, map_push}
 use Rattle.std.proofs.lemmas.Nat.{mul-le}
 use Rattle.std.proofs.lemmas.Option.{none-some, same_Some, option_and_then_some, slice_get_within, get_or_from_slice_get, slice_get-map}
 use Rattle.std.proofs.Math.Nat.{mod-add-div}
 use Rattle.yt_graph.specs.declared.graph.Output.{Output}
-use Rattle.yt_graph.specs.declared.handled.SendItem.{SendItem}
 use Rattle.yt_graph.specs.declared.port.Feed as feed
 use Rattle.yt_graph.specs.declared.port.Feed.{Feed}
 use Rattle.yt_graph.specs.declared.port.Feed.TheVariants.{Input, Out}
 use Rattle.yt_graph.specs.declared.port.OutHead.{OutHead}
-use Rattle.yt_graph.specs.Cost.{greatest_sends, sent_on, one_if_same}
+use Rattle.yt_graph.specs.Cost.{greatest_sends, sent_on}
 use Rattle.yt_graph.specs.Meaning.{Handling, handling}
 use Rattle.yt_graph.specs.Picture.{GraphTree, PortTree}
 use Rattle.yt_graph.specs.WellFormed.{EndsWithin, IsFineOut, IsFinePort, IsWellFormed}
@@ -23,7 +22,9 @@ use Rattle.yt_log.specs.Plan.{jobs_of}
 use Rattle.yt_log.proofs.Lemmas.{jobs_none, jobs_push_same, jobs_push_other}
 use Rattle.yt_rates.specs.Rates.{every_of, period_of, gap_of}
 use Rattle.yt_serial.specs.declared.trace.Message.{Message}
-use Rattle.yt_serial.specs.PortMessages.{PortMessage, messages_of, spaced, passed}
+use Rattle.yt_serial.specs.PortMessages.{PortMessage, messages_of, passed}
+use Rattle.yt_serial.proofs.Sends.{spaced-length}
+use Rattle.yt_list.proofs.Lemmas.{numbered_there}
 use Rattle.yt_list.specs.Numbered.{numbered}
 use Rattle.yt_serial.specs.SerialHandling.{Handled, Serial, messages_at, items_of, handled_of, from_outside, brought, placed, shown, all_shown, start, port_of, handle_message, message_of, serial_step, serial_run}
 use Rattle.yt_graph.specs.Labels.{no_port}
@@ -59,38 +60,20 @@ div_rises h e some multiple =
     absurd (omega arith))
     (cases_lt (h / e) (suc h / e))
 
-spaced-length : (out time gap : ℕ) (sends : List SendItem) → length (spaced out time gap sends) ≡ sent_on out sends
-spaced-length out time gap [] = refl
-spaced-length out time gap (s ∷ sends) =
-    let new : PortMessage = record { time = time; values = s.values } in
-    ⊎_elim
-    (λ (e : out ≡ s.out).
-    let a : length (spaced out time gap (s ∷ sends)) ≡ suc (length (spaced out (time + gap) gap sends)) =
-    ap length (cond-true (eqb out s.out) (new ∷ spaced out (time + gap) gap sends) (spaced out time gap sends) (eq-eqb out s.out e)) in
-    let b : one_if_same out s.out ≡ 1 = cond-true (eqb out s.out) 1 0 (eq-eqb out s.out e) in
-    let r = spaced-length out (time + gap) gap sends in
-    omega arith)
-    (λ (ne : out ≡ s.out → ⊥).
-    let a : length (spaced out time gap (s ∷ sends)) ≡ length (spaced out time gap sends) =
-    ap length (cond-false (eqb out s.out) (new ∷ spaced out (time + gap) gap sends) (spaced out time gap sends) (ne_eqb out s.out ne)) in
-    let b : one_if_same out s.out ≡ 0 = cond-false (eqb out s.out) 1 0 (ne_eqb out s.out ne) in
-    let r = spaced-length out time gap sends in
-    omega arith)
-    (cases_eq out s.out)
-
 -- the `every` of an out is positive
 every_some : (g : GraphTree) → IsWellFormed g → (port out : ℕ) (q : PortTree) → numbered g.ports port ≡ Some q → 1 ≤ every_of q out
 every_some g well zero out q there = absurd (none-some q there)
 every_some g well (suc k) out q there =
     let e : get_or g.ports k q ≡ q = get_or_from_slice_get g.ports k q q there in
     let fine : IsFinePort g q = subst (IsFinePort g) e (well.each_port k q (slice_get_within g.ports k q there)) in
-    by (slice_get q.outs (out - 1)) refl fine.8
+    by (numbered q.outs out) refl fine.8
   where
-    by : (o : Option OutHead) → slice_get q.outs (out - 1) ≡ o → All IsFineOut q.outs → 1 ≤ unwrap_or (option_map (λ (h : OutHead). h.every) (slice_get q.outs (out - 1))) 1
+    by : (o : Option OutHead) → numbered q.outs out ≡ o → All IsFineOut q.outs → 1 ≤ unwrap_or (option_map (λ (h : OutHead). h.every) (numbered q.outs out)) 1
     by None e fine = subst (λ (o : Option OutHead). 1 ≤ unwrap_or (option_map (λ (h : OutHead). h.every) o) 1) (sym e) (omega arith)
     by (Some h) e fine =
-        let same : get_or q.outs (out - 1) h ≡ h = get_or_from_slice_get q.outs (out - 1) h h e in
-        let f : IsFineOut h = subst IsFineOut same (fine (out - 1) h (slice_get_within q.outs (out - 1) h e)) in
+        let there = (numbered_there q.outs out h e).1 in
+        let same : get_or q.outs (out - 1) h ≡ h = get_or_from_slice_get q.outs (out - 1) h h there in
+        let f : IsFineOut h = subst IsFineOut same (fine (out - 1) h (slice_get_within q.outs (out - 1) h there)) in
         subst (λ (o : Option OutHead). 1 ≤ unwrap_or (option_map (λ (h : OutHead). h.every) o) 1) (sym e) f.2.0
 
 shown-length : (n : ℕ) (ms : List PortMessage) → length (shown n ms) ≡ length ms
@@ -117,7 +100,7 @@ pub record IsBounded (g : GraphTree) (s : Serial) : Type 0 where
 module _ (g : GraphTree) (trace : List Message) (can : CanRun g trace) where
   module _ (job : Job) (s : Serial) (holds : Holds g s) (m : PortMessage) (next : message_of job s ≡ Some m) (bounded : IsBounded g s) where
     abbrev h : Handling
-    h = handling (port_of g job) m.values s.vars
+    h = handling g (port_of g job) m.values s.vars
 
     abbrev passes : ℕ → List PortMessage
     passes = passed g (port_of g job) job.number m.time h.sends
@@ -125,10 +108,10 @@ module _ (g : GraphTree) (trace : List Message) (can : CanRun g trace) where
     abbrev t : Serial
     t = handle_message g job m s
 
-    items_after : items_of (handle_message g job m s) ≡ items_of s ++ (record { job = job; arrival = m.time; cost = (handling (port_of g job) m.values s.vars).ticks }) ∷ []
+    items_after : items_of (handle_message g job m s) ≡ items_of s ++ (record { job = job; arrival = m.time; cost = (handling g (port_of g job) m.values s.vars).ticks }) ∷ []
     items_after =
         map_push (λ (h : Handled). h.item) s.handled
-        (record { item = record { job = job; arrival = m.time; cost = (handling (port_of g job) m.values s.vars).ticks }; writes = (handling (port_of g job) m.values s.vars).writes })
+        (record { item = record { job = job; arrival = m.time; cost = (handling g (port_of g job) m.values s.vars).ticks }; writes = (handling g (port_of g job) m.values s.vars).writes })
 
     handled_same : (port : ℕ) → job.task ≡ port → handled_of (handle_message g job m s) port ≡ suc (handled_of s port)
     handled_same port e = ap (jobs_of port) items_after ∙ jobs_push_same port (items_of s) (record { job = job; arrival = m.time; cost = h.ticks }) e
@@ -166,7 +149,7 @@ module _ (g : GraphTree) (trace : List Message) (can : CanRun g trace) where
         ap (λ (x : ℕ). x % every) (omega arith) ∙ ap (λ (x : PortTree). job.number % every_of x out) (sym port) ∙ ap (λ (x : ℕ). job.number % every_of (port_of g job) x) outs ∙ b.multiple in
         let rises = div_rises (handled_of s from) every some multiple in
         let long : length (brought job.task passes (Out from out)) ≡ sent_on b.out h.sends = ap length b.spaced ∙ spaced-length b.out (m.time + period_of g (port_of g job)) (gap_of g (port_of g job) b.out) h.sends in
-        let most = sends_within (port_of g job) b.out m.values s.vars in
+        let most = sends_within g (port_of g job) b.out m.values s.vars in
         let same_most : greatest_sends (port_of g job) b.out ≡ k = ap (λ (x : PortTree). greatest_sends x b.out) port ∙ ap (greatest_sends q) (sym outs) in
         let after : suc (handled_of s from) / every ≡ handled_of (handle_message g job m s) from / every = ap (λ (x : ℕ). x / every) (sym count) in
         let mono : (handled_of s from / every + 1) * k ≤ handled_of (handle_message g job m s) from / every * k = mul-le (handled_of s from / every + 1) k (handled_of (handle_message g job m s) from / every) k (omega arith) (omega arith) in

@@ -5,6 +5,7 @@ pub use Rattle.yt_serial.proofs.LogWrites.{done_before, done_other, done_this, l
 pub use Rattle.yt_serial.proofs.Orders.{goes_on}
 pub use Rattle.yt_serial.proofs.Prefix.{begun_below-append, begun_same}
 pub use Rattle.yt_serial.proofs.RunRules.{meets_rules, run_rules_are_exact}
+pub use Rattle.yt_serial.proofs.Sends.{messages_on-length}
 pub use Rattle.yt_serial.proofs.SerialInvariant.{Holds, period_some, port_task}
 pub use Rattle.yt_serial.proofs.SerialLaws.{plans_are_legal}
 pub use Rattle.yt_serial.proofs.SerialLines.{LinesHold, all_at, all_before, all_past, lines_append, lines_hold}

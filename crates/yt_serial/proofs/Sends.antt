@@ -1,10 +1,12 @@
 -- When the messages of one job's sends come.
-use Rattle.std.proofs.Common.{◌≡◌, ℕ, zero, suc, ◌+◌, ◌*◌, ◌≤◌, true, false, eqb, List, [], ◌∷◌, slice_get, Some, sym, ap, subst, ⊎_elim, arith}
-use Rattle.std.proofs.lemmas.Bool.{cases_Bool, cond-true, cond-false}
+use Rattle.std.proofs.Common.{◌≡◌, ℕ, zero, suc, ◌+◌, ◌*◌, ◌≤◌, ℤ, eqb, List, [], ◌∷◌, length, slice_get, Some, refl, sym, ap, subst, ◌∙◌, ⊎_elim, arith, eq-eqb, ne_eqb}
+use Rattle.std.proofs.lemmas.Bool.{cases_eq, cond-true, cond-false}
 use Rattle.std.proofs.lemmas.Option.{none-some, same_Some}
 use Rattle.yt_graph.specs.declared.handled.SendItem.{SendItem}
 use Rattle.yt_graph.specs.Cost.{one_if_same, sent_on}
-use Rattle.yt_serial.specs.PortMessages.{PortMessage, spaced}
+use Rattle.yt_graph.specs.Sends.{messages_on}
+use Rattle.yt_order.specs.Gaps.{at_gaps}
+use Rattle.yt_serial.specs.PortMessages.{PortMessage, arriving, spaced}
 use Rattle.yt_serial.proofs.Spread.{IsSpread, spread_none, spread_first}
 
 -- a message comes no earlier than the first may, and leaves its gap before the last's gap ends
@@ -12,53 +14,50 @@ pub record ComesWithin (time gap count : ℕ) (x : PortMessage) : Type 0 where
   pub starts : time ≤ x.time
   pub ends : x.time + gap ≤ time + count * gap
 
-spaced_same : (out time gap : ℕ) (s : SendItem) (sends : List SendItem) → eqb out s.out ≡ true
-    → spaced out time gap (s ∷ sends) ≡ (record { time = time; values = s.values }) ∷ spaced out (time + gap) gap sends
-spaced_same out time gap s sends e =
-    cond-true (eqb out s.out) ((record { time = time; values = s.values }) ∷ spaced out (time + gap) gap sends) (spaced out time gap sends) e
-
-spaced_other : (out time gap : ℕ) (s : SendItem) (sends : List SendItem) → eqb out s.out ≡ false → spaced out time gap (s ∷ sends) ≡ spaced out time gap sends
-spaced_other out time gap s sends e =
-    cond-false (eqb out s.out) ((record { time = time; values = s.values }) ∷ spaced out (time + gap) gap sends) (spaced out time gap sends) e
-
-first_within : (out time gap : ℕ) (s : SendItem) (sends : List SendItem) (x : PortMessage) → one_if_same out s.out ≡ 1
-    → ((i : ℕ) → slice_get (spaced out (time + gap) gap sends) i ≡ Some x → ComesWithin (time + gap) gap (sent_on out sends) x)
-    → (i : ℕ) → slice_get ((record { time = time; values = s.values }) ∷ spaced out (time + gap) gap sends) i ≡ Some x → ComesWithin time gap (sent_on out (s ∷ sends)) x
-first_within out time gap s sends x one rest zero h =
-    let count : sent_on out (s ∷ sends) * gap ≡ (1 + sent_on out sends) * gap = ap (λ (n : ℕ). (n + sent_on out sends) * gap) one in
-    let e : time ≡ x.time = ap (λ (m : PortMessage). m.time) (same_Some (record { time = time; values = s.values }) x h) in
+pub gaps_within : (time gap : ℕ) (sent : List (List ℤ)) (i : ℕ) (x : PortMessage) → slice_get (at_gaps arriving time gap sent) i ≡ Some x → ComesWithin time gap (length sent) x
+gaps_within time gap [] i x h = absurd (none-some x h)
+gaps_within time gap (values ∷ sent) zero x h =
+    let e : time ≡ x.time = ap (λ (m : PortMessage). m.time) (same_Some (arriving time values) x h) in
     record { starts = omega arith; ends = omega arith }
-first_within out time gap s sends x one rest (suc i) h =
-    let count : sent_on out (s ∷ sends) * gap ≡ (1 + sent_on out sends) * gap = ap (λ (n : ℕ). (n + sent_on out sends) * gap) one in
-    let r = rest i h in
+gaps_within time gap (values ∷ sent) (suc i) x h =
+    let r = gaps_within (time + gap) gap sent i x h in
     let a = r.starts in
     let b = r.ends in
     record { starts = omega arith; ends = omega arith }
+
+pub gaps_spread : (time gap : ℕ) (sent : List (List ℤ)) → IsSpread gap (at_gaps arriving time gap sent)
+gaps_spread time gap [] = spread_none gap
+gaps_spread time gap (values ∷ sent) =
+    spread_first gap (arriving time values) (at_gaps arriving (time + gap) gap sent) (λ i y h. (gaps_within (time + gap) gap sent i y h).starts) (gaps_spread (time + gap) gap sent)
+
+pub gaps-length : (time gap : ℕ) (sent : List (List ℤ)) → length (at_gaps arriving time gap sent) ≡ length sent
+gaps-length time gap [] = refl
+gaps-length time gap (values ∷ sent) = ap suc (gaps-length (time + gap) gap sent)
+
+-- how many messages were sent on an out
+pub messages_on-length : (out : ℕ) (sends : List SendItem) → length (messages_on out sends) ≡ sent_on out sends
+messages_on-length out [] = refl
+messages_on-length out (s ∷ sends) =
+    let r = messages_on-length out sends in
+    ⊎_elim
+    (λ (e : s.out ≡ out).
+    let a : length (messages_on out (s ∷ sends)) ≡ suc (length (messages_on out sends)) =
+    ap length (cond-true (eqb s.out out) (s.values ∷ messages_on out sends) (messages_on out sends) (eq-eqb s.out out e)) in
+    let b : one_if_same out s.out ≡ 1 = cond-true (eqb out s.out) 1 0 (eq-eqb out s.out (sym e)) in
+    omega arith)
+    (λ (ne : s.out ≡ out → ⊥).
+    let a : length (messages_on out (s ∷ sends)) ≡ length (messages_on out sends) =
+    ap length (cond-false (eqb s.out out) (s.values ∷ messages_on out sends) (messages_on out sends) (ne_eqb s.out out ne)) in
+    let b : one_if_same out s.out ≡ 0 = cond-false (eqb out s.out) 1 0 (ne_eqb out s.out (λ e. ne (sym e))) in
+    omega arith)
+    (cases_eq s.out out)
+
+pub spaced-length : (out time gap : ℕ) (sends : List SendItem) → length (spaced out time gap sends) ≡ sent_on out sends
+spaced-length out time gap sends = gaps-length time gap (messages_on out sends) ∙ messages_on-length out sends
 
 pub spaced_within : (out time gap : ℕ) (sends : List SendItem) (i : ℕ) (x : PortMessage)
     → slice_get (spaced out time gap sends) i ≡ Some x → ComesWithin time gap (sent_on out sends) x
-spaced_within out time gap [] i x h = absurd (none-some x h)
-spaced_within out time gap (s ∷ sends) i x h =
-    ⊎_elim
-    (λ (e : eqb out s.out ≡ true).
-    first_within out time gap s sends x (cond-true (eqb out s.out) 1 0 e) (λ j k. spaced_within out (time + gap) gap sends j x k) i
-    (subst (λ (ms : List PortMessage). slice_get ms i ≡ Some x) (spaced_same out time gap s sends e) h))
-    (λ (e : eqb out s.out ≡ false).
-    let none : one_if_same out s.out ≡ 0 = cond-false (eqb out s.out) 1 0 e in
-    let count : sent_on out (s ∷ sends) * gap ≡ (0 + sent_on out sends) * gap = ap (λ (n : ℕ). (n + sent_on out sends) * gap) none in
-    let r = spaced_within out time gap sends i x (subst (λ (ms : List PortMessage). slice_get ms i ≡ Some x) (spaced_other out time gap s sends e) h) in
-    let a = r.starts in
-    let b = r.ends in
-    record { starts = omega arith; ends = omega arith })
-    (cases_Bool (eqb out s.out))
+spaced_within out time gap sends i x h = subst (λ (n : ℕ). ComesWithin time gap n x) (messages_on-length out sends) (gaps_within time gap (messages_on out sends) i x h)
 
 pub spaced_spread : (out time gap : ℕ) (sends : List SendItem) → IsSpread gap (spaced out time gap sends)
-spaced_spread out time gap [] = spread_none gap
-spaced_spread out time gap (s ∷ sends) =
-    ⊎_elim
-    (λ (e : eqb out s.out ≡ true). subst (IsSpread gap) (sym (spaced_same out time gap s sends e))
-    (spread_first gap (record { time = time; values = s.values }) (spaced out (time + gap) gap sends)
-    (λ i y h. (spaced_within out (time + gap) gap sends i y h).starts)
-    (spaced_spread out (time + gap) gap sends)))
-    (λ (e : eqb out s.out ≡ false). subst (IsSpread gap) (sym (spaced_other out time gap s sends e)) (spaced_spread out time gap sends))
-    (cases_Bool (eqb out s.out))
+spaced_spread out time gap sends = gaps_spread time gap (messages_on out sends)

@@ -85,7 +85,7 @@ period_some g (suc k) q rates there =
 -- the state after a port's job has handled a message
 abbrev pub after : GraphTree → PortTree → Job → PortMessage → Serial → Serial
 after g q job m s =
-    let h = handling q m.values s.vars in
+    let h = handling g q m.values s.vars in
     let passes = passed g q job.number m.time h.sends in
     record {
       vars = h.vars;
@@ -98,7 +98,7 @@ module _ (g : GraphTree) (well : IsWellFormed g) (rates : All (IsWithinRates g) 
     (job : Job) (q : PortTree) (is_port : numbered g.ports job.task ≡ Some q)
     (m : PortMessage) (next : job.number ≡ suc (handled_of s job.task)) (at : numbered (messages_at s job.task) job.number ≡ Some m) where
   abbrev h : Handling
-  h = handling q m.values s.vars
+  h = handling g q m.values s.vars
 
   abbrev item : PlanItem
   item = record { job = job; arrival = m.time; cost = h.ticks }
@@ -143,7 +143,7 @@ module _ (g : GraphTree) (well : IsWellFormed g) (rates : All (IsWithinRates g) 
       let a = c.starts in
       let b = c.ends in
       let most : sent_on out h.sends * gap_of g q out ≤ greatest_sends q out * gap_of g q out =
-      mul-le (sent_on out h.sends) (gap_of g q out) (greatest_sends q out) (gap_of g q out) (sends_within q out m.values s.vars) (omega arith) in
+      mul-le (sent_on out h.sends) (gap_of g q out) (greatest_sends q out) (gap_of g q out) (sends_within g q out m.values s.vars) (omega arith) in
       let fit = gaps_fit out in
       (a, omega arith)
 
@@ -237,7 +237,7 @@ module _ (g : GraphTree) (well : IsWellFormed g) (rates : All (IsWithinRates g) 
       let task = port_task g job.task q is_port in
       let cost : (its_task (tasks_of g) item).cost ≡ greatest_cost q = ap (λ t. t.cost) task.2 in
       let period : (its_task (tasks_of g) item).period ≡ period_of g q = ap (λ t. t.period) task.2 in
-      let ticks = ticks_within q m.values s.vars in
+      let ticks = ticks_within g q m.values s.vars in
       let some = period_some g job.task q rates is_port in
       subst (AreOrderly none (tasks_of g)) (sym items_after)
       (orderly_push none (tasks_of g) (items_of s) item

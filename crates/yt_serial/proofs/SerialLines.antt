@@ -1,10 +1,10 @@
 -- In serial handling the times of each output's lines rise.
-use Rattle.std.proofs.Common.{◌≡◌, ◌⊎◌, ℕ, zero, suc, ◌+◌, ◌<◌, ◌≤◌, cond, eqb, List, [], ◌∷◌, ◌++◌, length, slice_get, get_or, Option, Some, All, refl, sym, ap, subst, ◌∙◌, inl, inr, ⊎_elim, arith, append-nil, eq-eqb, ne_eqb}
+use Rattle.std.proofs.Common.{◌≡◌, ◌⊎◌, ℕ, ℤ, zero, suc, ◌+◌, ◌<◌, ◌≤◌, cond, eqb, List, [], ◌∷◌, ◌++◌, length, slice_get, get_or, Option, Some, All, refl, sym, ap, subst, ◌∙◌, inl, inr, ⊎_elim, arith, append-nil, eq-eqb, ne_eqb}
 use Rattle.std.specs.Option.{unwrap_or}
 use Rattle.std.proofs.lemmas.Bool.{cases_eq, cases_lt, cond-true, cond-false}
 use Rattle.std.proofs.lemmas.Option.{none-some, same_Some, option_and_then_some, slice_get-get_or}
 use Rattle.yt_graph.specs.declared.graph.Output.{Output}
-use Rattle.yt_graph.specs.declared.handled.SendItem.{SendItem}
+use Rattle.yt_graph.specs.Sends.{messages_on}
 use Rattle.yt_graph.specs.declared.port.Feed.TheVariants.{Out}
 use Rattle.yt_graph.specs.Meaning.{Handling, handling}
 use Rattle.yt_graph.specs.Picture.{GraphTree, PortTree}
@@ -16,12 +16,13 @@ use Rattle.yt_rates.specs.Faults.{IsWithinRates}
 use Rattle.yt_rates.specs.Rates.{period_of, gap_of}
 use Rattle.yt_serial.specs.declared.shown.OutLine.{OutLine}
 use Rattle.yt_serial.specs.declared.trace.Message.{Message}
-use Rattle.yt_serial.specs.PortMessages.{PortMessage, spaced, passed}
+use Rattle.yt_order.specs.Gaps.{at_gaps}
+use Rattle.yt_serial.specs.PortMessages.{PortMessage, arriving, passed}
 use Rattle.yt_list.specs.Numbered.{numbered}
 use Rattle.yt_serial.specs.SerialHandling.{Serial, messages_at, handled_of, start, brought, shown, all_shown, port_of, serial_step, serial_run}
 use Rattle.yt_graph.specs.Labels.{no_port}
 use Rattle.yt_serial.specs.Traces.{KeepsPeriods}
-use Rattle.yt_serial.proofs.Sends.{spaced_within}
+use Rattle.yt_serial.proofs.Sends.{gaps_within}
 use Rattle.yt_serial.proofs.SerialInvariant.{ComesOf, Holds, after, handled_grows, handled_same, message_stays, new_within, old_ends}
 use Rattle.yt_serial.proofs.SerialStates.{port_there, BringsOf, brings, message_there}
 use Rattle.yt_serial.proofs.SerialRuns.{stepped, holds_stepped, serial_holds}
@@ -140,20 +141,10 @@ has_shown n (m ∷ ms) l h =
     (λ (k : Has (shown n ms) l). let r = has_shown n ms l k in (suc r.0, r.1, r.2, r.3))
     h
 
-spaced_rise : (n out time gap : ℕ) (sends : List SendItem) → TimesRise (shown n (spaced out time gap sends))
-spaced_rise n out time gap [] = tt
-spaced_rise n out time gap (s ∷ sends) =
-    ⊎_elim
-    (λ (e : out ≡ s.out).
-    let same : spaced out time gap (s ∷ sends) ≡ (record { time = time; values = s.values }) ∷ spaced out (time + gap) gap sends =
-    cond-true (eqb out s.out) ((record { time = time; values = s.values }) ∷ spaced out (time + gap) gap sends) (spaced out time gap sends) (eq-eqb out s.out e) in
-    subst (λ (ms : List PortMessage). TimesRise (shown n ms)) (sym same)
-    ((λ l h. let r = has_shown n (spaced out (time + gap) gap sends) l h in let w = (spaced_within out (time + gap) gap sends r.0 r.1 r.2).starts in let t = r.3 in omega arith), spaced_rise n out (time + gap) gap sends))
-    (λ (ne : out ≡ s.out → ⊥).
-    let same : spaced out time gap (s ∷ sends) ≡ spaced out time gap sends =
-    cond-false (eqb out s.out) ((record { time = time; values = s.values }) ∷ spaced out (time + gap) gap sends) (spaced out time gap sends) (ne_eqb out s.out ne) in
-    subst (λ (ms : List PortMessage). TimesRise (shown n ms)) (sym same) (spaced_rise n out time gap sends))
-    (cases_eq out s.out)
+gaps_rise : (n time gap : ℕ) (sent : List (List ℤ)) → TimesRise (shown n (at_gaps arriving time gap sent))
+gaps_rise n time gap [] = tt
+gaps_rise n time gap (values ∷ sent) =
+    ((λ l h. let r = has_shown n (at_gaps arriving (time + gap) gap sent) l h in let w = (gaps_within (time + gap) gap sent r.0 r.1 r.2).starts in let t = r.3 in omega arith), gaps_rise n (time + gap) gap sent)
 
 -- a line as a message
 abbrev message_in : OutLine → PortMessage
@@ -168,7 +159,7 @@ module _ (g : GraphTree) (well : IsWellFormed g) (rates : All (IsWithinRates g) 
     (job : Job) (q : PortTree) (is_port : numbered g.ports job.task ≡ Some q)
     (m : PortMessage) (next : job.number ≡ suc (handled_of s job.task)) (at : numbered (messages_at s job.task) job.number ≡ Some m) where
   abbrev h : Handling
-  h = handling q m.values s.vars
+  h = handling g q m.values s.vars
 
   abbrev s' : Serial
   s' = after g q job m s
@@ -215,7 +206,7 @@ module _ (g : GraphTree) (well : IsWellFormed g) (rates : All (IsWithinRates g) 
       record { from = port; late = omega arith; comes = subst (λ (x : ℕ). ComesOf g s' q job.task x (message_in l)) out here }
 
   rise_new : (k : ℕ) (o : Output) (b : BringsOf g q job.task job.number m.time h.sends (Out o.port o.out) (brought job.task passes (Out o.port o.out))) → TimesRise (shown (suc k) (brought job.task passes (Out o.port o.out)))
-  rise_new k o b = subst (λ (ms : List PortMessage). TimesRise (shown (suc k) ms)) (sym b.spaced) (spaced_rise (suc k) b.out (m.time + period_of g q) (gap_of g q b.out) h.sends)
+  rise_new k o b = subst (λ (ms : List PortMessage). TimesRise (shown (suc k) ms)) (sym b.spaced) (gaps_rise (suc k) (m.time + period_of g q) (gap_of g q b.out) (messages_on b.out h.sends))
 
   lines_after : (n : ℕ) → lines_of n s'.lines ≡ lines_of n s.lines ++ lines_of n (all_shown job.task passes 1 g.outputs)
   lines_after n = lines_append n s.lines (all_shown job.task passes 1 g.outputs)

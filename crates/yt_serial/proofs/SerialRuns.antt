@@ -82,7 +82,7 @@ module _ (g : GraphTree) (trace : List Message) (can : CanRun g trace) where
       option_and_then_some {P = messages_at t (suc k) ≡ messages_at s (suc k)} (serial_run g order) (serial_step g job s) t along
       (λ x step rest.
       let m = stepped g job s x step in
-      let passes : ℕ → List PortMessage = passed g (port_of g job) job.number m.0.time (handling (port_of g job) m.0.values s.vars).sends in
+      let passes : ℕ → List PortMessage = passed g (port_of g job) job.number m.0.time (handling g (port_of g job) m.0.values s.vars).sends in
       inputs_stay order x t (holds_stepped g can.well_formed can.rates job s x holds step) rest k p i is feed
       ∙ ap (λ (y : Serial). messages_at y (suc k)) (sym m.2)
       ∙ placed_at (brought job.task passes) g.ports s.messages k p holds.long is

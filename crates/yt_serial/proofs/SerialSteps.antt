@@ -33,10 +33,10 @@ use Rattle.yt_serial.proofs.Spread.{get_cases, numbered_left}
 
 -- the item of a job that handles a message, and what it passes on through its outs
 abbrev pub step_item : GraphTree → Job → PortMessage → Serial → PlanItem
-step_item g job m s = record { job = job; arrival = m.time; cost = (handling (port_of g job) m.values s.vars).ticks }
+step_item g job m s = record { job = job; arrival = m.time; cost = (handling g (port_of g job) m.values s.vars).ticks }
 
 abbrev pub step_passes : GraphTree → Job → PortMessage → Serial → ℕ → List PortMessage
-step_passes g job m s = passed g (port_of g job) job.number m.time (handling (port_of g job) m.values s.vars).sends
+step_passes g job m s = passed g (port_of g job) job.number m.time (handling g (port_of g job) m.values s.vars).sends
 
 -- what a job passes on comes no earlier than its deadline
 pub sent_late : (g : GraphTree) (q : PortTree) (job : Job) (arrival : ℕ) (sends : List SendItem) (f : Feed) (k : ℕ) (x : PortMessage)
@@ -93,7 +93,7 @@ module _ (g : GraphTree) (trace : List Message) (can : CanRun g trace) where
     passes = step_passes g job m s
 
     items_after : items_of t ≡ items_of s ++ step_item g job m s ∷ []
-    items_after = map_push (λ (h : Handled). h.item) s.handled (record { item = step_item g job m s; writes = (handling (port_of g job) m.values s.vars).writes })
+    items_after = map_push (λ (h : Handled). h.item) s.handled (record { item = step_item g job m s; writes = (handling g (port_of g job) m.values s.vars).writes })
 
     has_new : Has (items_of (handle_message g job m s)) (step_item g job m s)
     has_new = subst (λ (is : List PlanItem). Has is (step_item g job m s)) (sym items_after) (has_last (items_of s) (step_item g job m s))
@@ -129,7 +129,7 @@ module _ (g : GraphTree) (trace : List Message) (can : CanRun g trace) where
             (λ (old : slice_get (messages_at s (suc k)) i ≡ Some x). inl old)
             (λ (new : (j : ℕ) × (i ≡ length (messages_at s (suc k)) + j) × (slice_get (brought job.task (step_passes g job m s) p.feed) j ≡ Some x)).
             let q = job_port in
-            let late = sent_late g (port_of g job) job m.time (handling (port_of g job) m.values s.vars).sends p.feed new.0 x new.2 in
+            let late = sent_late g (port_of g job) job m.time (handling g (port_of g job) m.values s.vars).sends p.feed new.0 x new.2 in
             inr (record {
               item = step_item g job m s;
               has = has_new;

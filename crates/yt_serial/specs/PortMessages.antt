@@ -2,7 +2,9 @@
 use Rattle.std.specs.Prelude.{ℕ, ◌+◌, ◌%◌, ◌==◌, ◌≤◌, ℤ, List, [], ◌∷◌, AllPairs, if◌then◌else◌}
 use Rattle.yt_graph.specs.declared.handled.SendItem.{SendItem}
 use Rattle.yt_graph.specs.Picture.{GraphTree, PortTree}
-use Rattle.yt_rates.specs.Rates.{every_of, period_of, gap_of}
+use Rattle.yt_graph.specs.Sends.{messages_on}
+use Rattle.yt_order.specs.Gaps.{at_gaps}
+use Rattle.yt_rates.specs.Rates.{every_of, within_of, gap_of}
 use Rattle.yt_serial.specs.declared.trace.Message.{Message}
 
 -- a message at a port: the tick at which it arrives, and its numbers
@@ -20,14 +22,16 @@ messages_of input [] = []
 messages_of input (message ∷ trace) =
     if message.input == input then (record { time = message.time; values = message.values }) ∷ messages_of input trace else messages_of input trace
 
--- the messages of these sends that were sent on an out, from 1: the first at a time, each later one a gap after the one before
+-- a message of these numbers that arrives at a tick
+abbrev pub arriving : ℕ → List ℤ → PortMessage
+arriving time values = record { time = time; values = values }
+
+-- the messages of these sends on an out, from 1: the first at a time, each later one a gap after the one before
 abbrev pub spaced : ℕ → ℕ → ℕ → List SendItem → List PortMessage
-spaced out time gap [] = []
-spaced out time gap (send ∷ sends) =
-    if out == send.out then (record { time = time; values = send.values }) ∷ spaced out (time + gap) gap sends else spaced out time gap sends
+spaced out time gap sends = at_gaps arriving time gap (messages_on out sends)
 
 -- the messages that a port's job of a number passes on through an out, where it arrived at a tick and its handler sent these:
--- none where the number is no multiple of the out's `every`, else the first of them a period after the job's arrival
+-- none where the number is no multiple of the out's `every`, else the first of them when the job is due
 abbrev pub passed : GraphTree → PortTree → ℕ → ℕ → List SendItem → ℕ → List PortMessage
 passed g port number arrival sends out =
-    if number % every_of port out == 0 then spaced out (arrival + period_of g port) (gap_of g port out) sends else []
+    if number % every_of port out == 0 then spaced out (arrival + within_of g port) (gap_of g port out) sends else []

@@ -86,7 +86,7 @@ port_of g job = unwrap_or (numbered g.ports job.task) no_port
 -- a job handles a message whole
 abbrev pub handle_message : GraphTree → Job → PortMessage → Serial → Serial
 handle_message g job message s =
-    let h = handling (port_of g job) message.values s.vars in
+    let h = handling g (port_of g job) message.values s.vars in
     let passes = passed g (port_of g job) job.number message.time h.sends in
     record {
       vars = h.vars;

@@ -1,9 +1,9 @@
 -- When a log and output lines tell the run of a graph on a trace, and what is promised of it.
-use Rattle.std.specs.Prelude.{◌≡◌, ℕ, ◌+◌, ◌<◌, ◌≤◌, ◌==◌, ◌&&◌, ◌||◌, nat_lt, max, Bool, List, [], ◌∷◌, Some, length}
+use Rattle.std.specs.Prelude.{◌≡◌, ℕ, ◌+◌, ◌<◌, ◌≤◌, max, Bool, List, [], ◌∷◌, Some, length}
 use Rattle.yt_graph.specs.Picture.{GraphTree}
 use Rattle.yt_log.specs.declared.plan.PlanItem.{PlanItem}
 use Rattle.yt_log.specs.EdfDdm.{IsEdfDdm}
-use Rattle.yt_order.specs.Sorting.{sort_by}
+use Rattle.yt_order.specs.Sorting.{before_by, sort_by}
 use Rattle.yt_log.specs.Plan.{IsLegal}
 use Rattle.yt_log.specs.Tasks.{Has}
 use Rattle.yt_log.specs.Ticks.{Ticks, done, first_tick, IsLawful, IsWorkConserving, IsExclusive, KeepsDeadlines}
@@ -15,7 +15,7 @@ use Rattle.yt_serial.specs.SerialHandling.{Serial, messages_at, handled_of, hand
 
 -- a line comes before another by time, and then by output
 abbrev pub line_before : OutLine → OutLine → Bool
-line_before a b = nat_lt a.time b.time || ((a.time == b.time) && nat_lt a.output b.output)
+line_before = before_by (λ (line : OutLine). line.time) (λ (line : OutLine). line.output)
 
 -- the latest time of the lines, 0 where there is none
 abbrev pub latest : List OutLine → ℕ

@@ -1,15 +1,11 @@
 -- The variables at a tick of a run.
-use Rattle.std.specs.Prelude.{ℕ, zero, suc, ◌==◌, if◌then◌else◌, ℤ, List, [], ◌∷◌, ◌++◌, slice_set, Option, Some, None}
+use Rattle.std.specs.Prelude.{ℕ, zero, suc, ◌==◌, if◌then◌else◌, ℤ, List, [], ◌∷◌, ◌++◌, Option, Some, None}
 use Rattle.yt_graph.specs.declared.handled.Write.{Write}
+pub use Rattle.yt_graph.specs.Writes.{after_writes}
 use Rattle.yt_log.specs.declared.job.Job.{Job}
 use Rattle.yt_log.specs.Plan.{same_job}
 use Rattle.yt_log.specs.Ticks.{Ticks, tick, done}
 use Rattle.yt_serial.specs.SerialHandling.{Handled}
-
--- variables after these writes
-abbrev pub after_writes : List Write → List ℤ → List ℤ
-after_writes [] vars = vars
-after_writes (w ∷ rest) vars = after_writes rest (slice_set vars w.variable w.value)
 
 -- the writes of one tick, by its offset
 abbrev pub writes_at : ℕ → List Write → List Write

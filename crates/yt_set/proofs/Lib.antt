@@ -1,4 +1,5 @@
 pub mod Lemmas
+mod Demands
 mod Hyperperiods
 mod Multiples
 mod NamedLemmas

@@ -1,13 +1,15 @@
 -- What the steps of reading a set's text answer.
-use Rattle.std.specs.Prelude.{◌≡◌, ℕ, List, Option, Some, None, Err, if◌then◌else◌}
+use Rattle.std.specs.Prelude.{ℕ, List, Option, Some, None, if◌then◌else◌}
 use Rattle.yt_base.specs.Digits.{value_of}
+use Rattle.yt_base.specs.declared.file_error.FileError.{FileError}
+use Rattle.yt_base.specs.declared.file_error.FileError.TheVariants as file
+use Rattle.yt_set.specs.declared.read.LineFault.{LineFault}
 use Rattle.yt_set.specs.declared.read.SetFault.{SetFault}
 use Rattle.yt_set.specs.declared.read.SetFault.TheVariants.{Line, Memory}
 use Rattle.yt_set.specs.declared.task_line.TaskLine.{TaskLine}
 use Rattle.yt_set.specs.declared.task_line.NewTask.{NewTask}
 use Rattle.yt_set.specs.NamedTasks.{NamedTasks}
-use Rattle.yt_base.specs.Files.{after_line}
-use Rattle.yt_set.specs.SetText.{TaskTexts, in_range, judged, with_task}
+use Rattle.yt_set.specs.SetText.{TaskTexts, in_range, with_task}
 
 -- the texts of a line's fields
 abbrev pub texts_of : TaskLine → TaskTexts
@@ -21,7 +23,7 @@ ticks_of text = if in_range (value_of text) then Some (value_of text) else None
 abbrev pub with_new : NamedTasks → NewTask → NamedTasks
 with_new read new = with_task read new.name.now new.cost new.period new.group.now
 
--- the fault is that of this line after what was read; memory may run out at any
-abbrev pub IsFaultAt : NamedTasks → ℕ → List ℕ → SetFault → Type 0
-IsFaultAt read number line (Line at fault) = (at ≡ number) × (after_line judged read line ≡ Err fault)
-IsFaultAt read number line Memory = Unit {0}
+-- why a set's text isn't read, in the words of sets
+abbrev pub fault_of : FileError LineFault → SetFault
+fault_of (file.Line number fault) = Line number fault
+fault_of file.Memory = Memory

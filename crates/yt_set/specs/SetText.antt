@@ -1,6 +1,6 @@
 -- The text of a task set.
 use Rattle.std.specs.Prelude.{◌≡◌, ℕ, ◌+◌, ◌==◌, ◌&&◌, ◌||◌, not, nat_lt, nat_le, Bool, List, [], ◌∷◌, ◌++◌, length, bytes_eq, codes, if◌then◌else◌, Option, None, Some, Result, Ok, Err}
-use Rattle.std.specs.List.{list_all, list_any, position_or_len}
+use Rattle.std.specs.List.{list_all, position_or_len}
 use Rattle.yt_base.specs.Digits.{is_digits, value_of}
 use Rattle.yt_table.specs.Tables.{is_among}
 use Rattle.yt_set.specs.Limits.{most_name_bytes, most_tasks, most_ticks}

@@ -1,5 +1,5 @@
 -- Task sets: what their tasks ask of the processor, and when they fit.
-use Rattle.std.specs.Prelude.{◌≡◌, ℕ, ◌+◌, ◌-◌, ◌*◌, ◌/◌, ◌%◌, ◌<◌, ◌≤◌, ◌==◌, min, zero, suc, List, [], ◌∷◌, length, map, if◌then◌else◌, Option, Some, None, IsSomeAnd}
+use Rattle.std.specs.Prelude.{ℕ, ◌+◌, ◌-◌, ◌*◌, ◌/◌, ◌%◌, ◌<◌, ◌≤◌, ◌==◌, min, zero, suc, List, [], ◌∷◌, length, map, if◌then◌else◌, Option, None, IsSomeAnd}
 use Rattle.std.specs.List.{All, filter, reduce, sum_by}
 use Rattle.yt_set.specs.declared.task.Task.{Task}
 use Rattle.yt_set.specs.Limits.{most_tasks, most_ticks}
@@ -24,9 +24,9 @@ users_of tasks resource = filter (λ task. task.resource == resource) tasks
 abbrev pub floor_of : List Task → ℕ → Option ℕ
 floor_of tasks resource = if resource == 0 then None else reduce min (map within (users_of tasks resource))
 
--- how many jobs of a task can arrive and be due within t ticks
+-- how many jobs of a task can arrive and be due within t ticks: none before the first is due, then one more with each period
 abbrev pub jobs_due : Task → ℕ → ℕ
-jobs_due task t = t / task.period
+jobs_due task t = (t + task.period - within task) / task.period
 
 -- the demand of t ticks: the most that the jobs cost which can arrive and be due within them
 abbrev pub demand_bound : List Task → ℕ → ℕ

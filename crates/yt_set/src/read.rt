@@ -1,12 +1,13 @@
 //! Reads the text of a set.
 ghost use Rattle.std.specs.Prelude.{◌≡◌, ◌<◌, ◌^◌, length, Ok, IfOk, IfErr};
+ghost use Rattle.yt_set.specs.Reading.{fault_of};
 ghost use Rattle.yt_set.specs.SetText.{IsFaultOf, set_of};
 ghost use Rattle.yt_set.specs.declared.read.SetFault.TheVariants.{Memory};
 
 use crate::named::NamedSet;
 use crate::reader::Reader;
 use std::alloc::{AllocError, Global};
-use yt_base::Lines;
+use yt_base::{FileError, read_lines};
 
 /// What is wrong with a line of a set's text. Of several faults the first in this order counts.
 #[derive(Clone, Copy, Debug, PartialEq, Eq, Drop)]
@@ -43,6 +44,17 @@ impl From<AllocError> for SetFault {
     }
 }
 
+impl From<FileError<LineFault>> for SetFault {
+    ghost from_gives = { λ error fault. fault ≡ fault_of error };
+
+    fn from(error: FileError<LineFault>) -> Self {
+        match error {
+            FileError::Line(number, fault) => SetFault::Line(number, fault),
+            FileError::Memory => SetFault::Memory,
+        }
+    }
+}
+
 /// The set that a text says, line by line `task NAME COST PERIOD` or `task NAME COST PERIOD RESOURCE`, or its first line at
 /// fault and that line's first fault.
 ///
@@ -53,12 +65,6 @@ pub fn read_set(alloc: Global, text: &[u8]) -> Result<NamedSet, SetFault>
     ensures ok { IfOk result (λ named. set_of text.now ≡ Ok named) }
     ensures err { IfErr result (λ fault. IsFaultOf text.now fault) }
 {
-    let mut lines = Lines::new(text);
-    let mut reader = Reader::new(alloc);
-    let mut number = 0;
-    while let Some(line) = lines.next() {
-        number += 1;
-        reader = reader.read_line(number, line)?;
-    }
+    let reader = read_lines(Reader::new(alloc), text)?;
     Ok(reader.finish(alloc)?)
 }

@@ -1,20 +1,19 @@
 //! Reads a set line by line.
 ghost use Rattle.std.specs.Prelude.{◌≡◌, ◌<◌, ◌≤◌, length, IfOk, MatchResult, Ok, Err, OnOk, IsTrue, false};
 ghost use Rattle.yt_base.specs.Lines.{fields_of};
-ghost use Rattle.yt_base.specs.Files.{after_line};
 ghost use Rattle.yt_table.specs.Tables.{is_among};
 ghost use Rattle.yt_set.specs.Limits.{most_tasks};
-ghost use Rattle.yt_set.specs.Reading.{IsFaultAt, with_new};
+ghost use Rattle.yt_set.specs.Reading.{with_new};
 ghost use Rattle.yt_set.specs.SetText.{in_range, is_group, is_name, judged, no_tasks, number_of, with_group};
 
 use crate::named::NamedSet;
-use crate::read::{LineFault, SetFault};
+use crate::read::LineFault;
 use crate::set::{MOST_TASKS, TaskSet};
 use crate::task::Task;
 use crate::task_line::{NewTask, TaskLine, ticks};
 use std::alloc::{AllocError, Global};
 use std::marker::Model;
-use yt_base::is_skipped;
+use yt_base::{LineError, LineReader};
 use yt_table::NameSet;
 
 /// What the lines so far say. A contract sees the tasks, their names, and the names of resources in order of first use.
@@ -44,21 +43,6 @@ impl<'a> Reader<'a> {
             tasks: Vec::new(alloc),
             labels: NameSet::new(alloc),
             groups: NameSet::new(alloc),
-        }
-    }
-
-    /// Reads the line of a number, without its line feed.
-    pub(crate) fn read_line(self, number: u32, line: &'a [u8]) -> Result<Self, SetFault>
-        ensures { MatchResult result
-            (λ read. after_line judged self.entry line.now ≡ Ok read)
-            (λ fault. IsFaultAt self.entry number line.now fault) }
-    {
-        if is_skipped(line) {
-            return Ok(self);
-        }
-        match self.judge(line) {
-            Err(fault) => Err(SetFault::Line(number, fault)),
-            Ok(task) => Ok(self.add(task)?),
         }
     }
 
@@ -138,6 +122,19 @@ impl<'a> Reader<'a> {
         let labels = self.labels.to_names(alloc)?;
         let groups = self.groups.to_names(alloc)?;
         Ok(NamedSet::new(TaskSet::of(self.tasks), labels, groups))
+    }
+}
+
+impl<'a> LineReader<'a> for Reader<'a> {
+    type Fault = LineFault;
+
+    ghost judged = { judged };
+
+    fn read_line(self, line: &'a [u8]) -> Result<Self, LineError<LineFault>> {
+        match self.judge(line) {
+            Err(fault) => Err(LineError::Fault(fault)),
+            Ok(task) => Ok(self.add(task)?),
+        }
     }
 }
 

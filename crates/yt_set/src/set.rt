@@ -75,26 +75,26 @@ impl TaskSet {
         self.tasks[task as usize - 1]
     }
 
-    /// The least period of the tasks under a resource. `None` comes exactly where no task is under it, and for 0, which is no
-    /// resource.
+    /// The deadline floor of a resource: within how many ticks the most urgent of the tasks under it is due. `None` comes exactly
+    /// where no task is under it, and for 0, which is no resource.
     pub fn floor(&self, resource: u32) -> Option<u64>
         ensures { result ≡ floor_of self.now resource }
     {
         if resource == 0 {
             return None;
         }
-        least_period(&self.tasks, resource)
+        least_within(&self.tasks, resource)
     }
 }
 
-/// The least period of the tasks with this resource; `None` exactly where there are none.
-fn least_period(tasks: &[Task], resource: u32) -> Option<u64>
+/// Within how many ticks the most urgent of the tasks with this resource is due; `None` exactly where there are none.
+fn least_within(tasks: &[Task], resource: u32) -> Option<u64>
     ensures { result ≡ reduce min (map within (users_of tasks.now resource)) }
 {
     tasks
         .iter()
         .filter(|task| task.resource == resource)
-        .map(|task| task.period)
+        .map(|task| task.within())
         .min()
 }
 

@@ -5,7 +5,7 @@ use Rattle.std.specs.Str.{bytes_eq}
 use Rattle.std.specs.Map.{update}
 use Rattle.std.proofs.Math.Seq.{drop-cons}
 use Rattle.yt_table.specs.Tables.{first_of}
-use Rattle.yt_table.specs.inner.Numbers.{or_declared, or_later}
+use Rattle.yt_table.specs.Inside.Numbers.{or_declared, or_later}
 
 -- a name that has no number takes the new one, and one that has a number keeps it
 module _ (f : List ℕ → Option ℕ) (name : List ℕ) (number : ℕ) where

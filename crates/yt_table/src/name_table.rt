@@ -1,7 +1,7 @@
 //! Items that are found by their names.
 ghost use Rattle.std.specs.Prelude.{◌≡◌, ◌<◌, ℕ, List, length, map, unwrap_or, IfOk, IfSome, OnOk};
 ghost use Rattle.yt_table.specs.Tables.{first_of};
-ghost use Rattle.yt_table.specs.inner.Numbers.{number_in, HasNumber};
+ghost use Rattle.yt_table.specs.Inside.Numbers.{number_in, HasNumber};
 
 use indexmap::IndexMap;
 use std::alloc::{AllocError, Global};

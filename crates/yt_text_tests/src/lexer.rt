@@ -122,3 +122,22 @@ fn judge_faults(rt: &(impl Abort + AllocGlobal), rows: &[(&str, LexFault)]) -> R
 fn texts_have_their_first_fault(rt: HostRuntime) -> Result<(), Fail> {
     judge_faults(&rt, FAULTS)
 }
+
+#[test]
+fn a_long_text_has_its_tokens(rt: HostRuntime) -> Result<(), Fail> {
+    let alloc = rt.alloc();
+    let mut text = vec![in alloc; b' '; 1_100_000]?;
+    text.push(b'x')?;
+    let tokens = lex(alloc, &text).ok().ok_or("a fault")?;
+    assert_eq!(rt; tokens.len(), 1);
+    let token = tokens.as_slice().first().ok_or("no token")?;
+    assert_eq!(rt; (token.from, token.to), (1_100_000, 1_100_001));
+    assert_eq!(rt;
+        token.place,
+        Place {
+            line: 1,
+            col: 1_100_001
+        }
+    );
+    Ok(())
+}

@@ -1,4 +1,4 @@
-//! Tests of what is done with trees of graphs: they are opened (`yt_graph`), printed (`yt_parser`), and their names looked up
+//! Tests of what is done with trees of graphs: they are opened (`yt_graph`), printed (`yt_printer`), and their names looked up
 //! (`yt_names`).
 //!
 //! This crate has nothing but tests, and no crate stands on it. It knows the public calls of those crates alone. Its tests show

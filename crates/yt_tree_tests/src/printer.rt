@@ -4,12 +4,13 @@ use crate::trees::{num, tree_of, word};
 use std::alloc::{AllocError, Global};
 use std::process::Abort;
 use std::test::Fail;
+use yt_grammar::ast_ok;
 use yt_graph::{
     Ast, AstExpr, AstStmt, Item, Op2, OutDecls, Path, PortDecl, PortDecls, Source, Stmts, VarDecl,
     VarDecls, Words, ast_call, ast_if,
 };
 use yt_list::Items;
-use yt_parser::{ast_ok, print_graph};
+use yt_printer::print_graph;
 
 /// Each form of items, statements and expressions, in another layout than the printed one.
 const FORMS: &str = "input in1 ( 02 ) period 100 # a hundred

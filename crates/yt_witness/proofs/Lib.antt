@@ -1,3 +1,6 @@
 pub mod Lemmas
+mod Merging
 mod Misses
+mod OnePattern
 mod Places
+mod Plans

@@ -26,16 +26,17 @@ pattern_misses tasks set (All upto) is =
     subst (λ (t : ℕ). MustMiss tasks (pattern_plan (all_tasks tasks t)) t) (sym is.0)
     (⊎_elim
     (λ (over : h < load tasks h). overloads.load tasks set over)
-    (λ (fits : load tasks h ≤ h). absurd (is.1 fits))
+    (λ (fits : load tasks h ≤ h). absurd (is.2 fits))
     (cases_lt h (load tasks h)))
 pattern_misses tasks set (Blocker task upto) is =
     blockers tasks set task is.positive is.in_set is.floor upto is.least is.above is.below is.over
 
 -- an overload's pattern is one of the set's
-pub overload_pattern : (tasks : List Task) (why : Unfit) (sum : LoadSum) → why ≡ Overload sum → IsReason tasks why → IsPatternOf tasks (All sum.whole)
-overload_pattern tasks why sum is reason =
-    let told = subst (λ w. IsReason tasks w) is reason in
-    (ap (λ (s : LoadSum). s.whole) told.0, told.2)
+pub load_pattern_is : (tasks : List Task) (sum : LoadSum) → IsReason tasks (Overload sum) → IsPatternOf tasks (All sum.whole)
+load_pattern_is tasks sum reason =
+    let whole : sum.whole ≡ hyperperiod tasks = ap (λ (s : LoadSum). s.whole) reason.0 in
+    let narrow = reason.1 in
+    (whole, omega arith, reason.2)
 
 -- the task of a number
 numbered : (tasks : List Task) (n : ℕ) (task : Task) → 1 ≤ n → slice_get tasks (n - 1) ≡ Some task → task_of tasks n ≡ task
@@ -63,7 +64,5 @@ lowest_pattern tasks breach is =
     }
 
 -- a breach's pattern is one of the set's
-pub breach_pattern : (tasks : List Task) (why : Unfit) (breach : Breach) → why ≡ Interval breach → IsReason tasks why → IsPatternOf tasks (Blocker breach.task breach.len)
-breach_pattern tasks why breach told reason =
-    let first = subst (λ w. IsReason tasks w) told reason in
-    lowest_pattern tasks breach first.0.lowest
+pub room_pattern_is : (tasks : List Task) (breach : Breach) → IsReason tasks (Interval breach) → IsPatternOf tasks (Blocker breach.task breach.len)
+room_pattern_is tasks breach reason = lowest_pattern tasks breach reason.0.lowest

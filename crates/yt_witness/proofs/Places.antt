@@ -3,6 +3,7 @@ use Rattle.std.proofs.Common.{◌≡◌, ℕ, zero, suc, ◌+◌, ◌-◌, ◌/�
 use Rattle.std.proofs.lemmas.Option.{get_or_from_slice_get}
 use Rattle.yt_set.specs.declared.task.Task.{Task}
 use Rattle.yt_set.specs.Tasks.{jobs_due}
+use Rattle.yt_set.proofs.Lemmas.{jobs_due_whole}
 use Rattle.yt_log.specs.Tasks.{no_task, task_of}
 use Rattle.yt_log.specs.Patterns.{Arrivals, all_tasks, arrivals_from, blocker}
 use Rattle.yt_log.proofs.Lemmas.{task_of-suc}
@@ -55,6 +56,7 @@ pub all_at : (tasks : List Task) (upto n : ℕ) (task : Task) → 1 ≤ n → sl
 all_at tasks upto n task pos at =
     numbered (λ m. 0) (λ m. jobs_due (task_of tasks m) upto) tasks n task pos at
     ∙ ap (λ (t : Task). Some (of task 0 (jobs_due t upto))) (task_at tasks n task pos at)
+    ∙ ap (λ (m : ℕ). Some (of task 0 m)) (jobs_due_whole task upto)
 
 pub blocker_at : (tasks : List Task) (i span n : ℕ) (task : Task) → 1 ≤ n → slice_get tasks (n - 1) ≡ Some task → n ≡ i →
     slice_get (blocker tasks i span) (n - 1) ≡ Some (of task 0 1)
@@ -68,3 +70,4 @@ other_at tasks i span n task pos at ne =
     numbered (λ m. cond (eqb m i) 0 1) (λ m. cond (eqb m i) 1 (jobs_due (task_of tasks m) (span - 1))) tasks n task pos at
     ∙ ap (λ (b : Bool). Some (of task (cond b 0 1) (cond b 1 (jobs_due (task_of tasks n) (span - 1))))) (ne_eqb n i ne)
     ∙ ap (λ (t : Task). Some (of task 1 (jobs_due t (span - 1)))) (task_at tasks n task pos at)
+    ∙ ap (λ (m : ℕ). Some (of task 1 m)) (jobs_due_whole task (span - 1))

@@ -1,7 +1,10 @@
 -- The patterns that show that a set doesn't fit, and what each stands for.
 use Rattle.std.specs.Prelude.{◌≡◌, ℕ, ◌+◌, ◌-◌, ◌<◌, ◌≤◌, List, length, Option, Some, None}
+use Rattle.std.specs.List.{sum_by}
 use Rattle.yt_set.specs.declared.task.Task.{Task}
+use Rattle.yt_set.specs.Limits.{most_ticks}
 use Rattle.yt_set.specs.Tasks.{FitsLoad, within, floor_of, demand_bound, hyperperiod}
+use Rattle.yt_fits.specs.Loads.{most_multiple}
 use Rattle.yt_fits.specs.declared.unfit.Unfit.{Unfit}
 use Rattle.yt_fits.specs.declared.unfit.Unfit.TheVariants.{Hyperperiod, Overload, Interval}
 use Rattle.yt_log.specs.declared.plan.PlanItem.{PlanItem}
@@ -10,6 +13,9 @@ use Rattle.yt_log.specs.Patterns.{Arrivals, all_tasks, blocker, pattern_plan}
 use Rattle.yt_witness.specs.declared.arrivals.Arrivals as told
 use Rattle.yt_witness.specs.declared.pattern.Pattern.{Pattern}
 use Rattle.yt_witness.specs.declared.pattern.Pattern.TheVariants.{All, Blocker}
+use Rattle.yt_witness.specs.declared.plan.PatternFault.{PatternFault}
+use Rattle.yt_witness.specs.declared.plan.PatternFault.TheVariants.{Long, Memory}
+use Rattle.yt_witness.specs.declared.plan.TheConstants.{MOST_HORIZON, MOST_JOBS}
 
 -- the pattern of a reason: the overload's has the hyperperiod, the interval's its task and its length
 abbrev pub pattern_of : Unfit → Option Pattern
@@ -33,9 +39,9 @@ pub record Blocks (tasks : List Task) (i span : ℕ) : Type 0 where
   pub below : span < within (task_of tasks i)
   pub over : span < (task_of tasks i).cost + demand_bound tasks (span - 1)
 
--- the pattern is one of the set's: that of all tasks has the hyperperiod, and the load doesn't fit; that of a blocker has a span in which its task leaves too little room
+-- the pattern is one of the set's: that of all tasks has the hyperperiod, which is not too great, and the load doesn't fit; that of a blocker has a span in which its task leaves too little room
 abbrev pub IsPatternOf : List Task → Pattern → Type 0
-IsPatternOf tasks (All upto) = (upto ≡ hyperperiod tasks) × (FitsLoad tasks → ⊥)
+IsPatternOf tasks (All upto) = (upto ≡ hyperperiod tasks) × (upto ≤ most_multiple) × (FitsLoad tasks → ⊥)
 IsPatternOf tasks (Blocker task upto) = Blocks tasks task upto
 
 -- what a pattern stands for: the arrivals of each task, in order of the tasks
@@ -55,3 +61,24 @@ horizon (Blocker task upto) = upto
 -- arrivals as the program has them, as patterns have them
 abbrev pub as_arrivals : told.Arrivals → Arrivals
 as_arrivals a = record { first = a.first; step = a.step; count = a.count; cost = a.cost }
+
+-- what is known of the arrivals of each task of a set's pattern
+pub record AreInRange (a : Arrivals) : Type 0 where
+  pub first : a.first ≤ 1
+  pub some : 1 ≤ a.step
+  pub step : a.step ≤ most_ticks
+  pub count : a.count ≤ most_multiple
+
+-- how many jobs a pattern has
+abbrev pub job_count : List Task → Pattern → ℕ
+job_count tasks pattern = sum_by (λ a. a.count) (arrivals_of tasks pattern)
+
+-- the pattern is short enough for its plan to be made: its horizon and its jobs are within the limits
+pub record IsShort (tasks : List Task) (pattern : Pattern) : Type 0 where
+  pub early : horizon pattern ≤ MOST_HORIZON
+  pub few : job_count tasks pattern ≤ MOST_JOBS
+
+-- why the plan isn't made: the pattern isn't short, with its horizon and how many jobs it has; or memory ran out
+abbrev pub IsFaultOf : List Task → Pattern → PatternFault → Type 0
+IsFaultOf tasks pattern (Long upto jobs) = (upto ≡ horizon pattern) × (jobs ≡ job_count tasks pattern) × (IsShort tasks pattern → ⊥)
+IsFaultOf tasks pattern Memory = IsShort tasks pattern

@@ -9,7 +9,7 @@ use Rattle.yt_chan.specs.declared.port.PortJob.{PortJob}
 use Rattle.yt_chan.specs.declared.target.Arrived.{Arrived}
 use Rattle.yt_chan.specs.declared.target.Arrived.TheVariants.{Port, Output}
 use Rattle.yt_chan.specs.Inside.Queues.{state_of}
-use Rattle.yt_chan.specs.Inside.Sound.{IsTable, IsSound}
+use Rattle.yt_chan.specs.Inside.Sound.{IsTable, IsSound, table_row}
 use Rattle.yt_chan.specs.State.{ChannelState, waits_at}
 use Rattle.yt_chan.specs.Pending.{Pending}
 use Rattle.yt_chan.specs.Wires.{wire_of_out, feeds, wire_at}
@@ -63,5 +63,5 @@ AmongOuts wires port n target =
 pub record IsKept (widths : List ℕ) (wires : List Wire) (table : List ℕ) (queues : List WireQueue) (jobs : List PortJob) (ports outputs : List Inbox) (list : List Head) : Type 0 where
   pub sound : IsSound widths wires queues jobs ports outputs
   pub entries : IsTable wires table
-  pub entries_long : length table ≡ 9 * (length widths + 1)
+  pub entries_long : length table ≡ table_row * (length widths + 1)
   pub heads : AreHeads (state_of widths wires queues jobs ports outputs) list

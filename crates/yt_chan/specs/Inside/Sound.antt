@@ -1,7 +1,7 @@
 -- What stays true of the queues and places of a `Channels`.
 use Rattle.std.specs.Prelude.{◌≡◌, ℕ, ◌+◌, ◌-◌, ◌*◌, ◌%◌, ◌^◌, ◌≤◌, ◌<◌, ◌==◌, if◌then◌else◌, true, false, List, [], length, slice_index_or}
 use Rattle.yt_log.specs.Limits.{most_arrival}
-use Rattle.yt_chan.specs.Limits.{most_base, most_gap, most_ports, most_sends}
+use Rattle.yt_chan.specs.Limits.{most_base, most_gap, most_outputs, most_outs, most_ports, most_sends}
 use Rattle.yt_chan.specs.declared.wire.Wire.{Wire}
 use Rattle.yt_chan.specs.declared.queue.WireQueue.{WireQueue}
 use Rattle.yt_chan.specs.declared.target.Arrived.{Arrived}
@@ -54,7 +54,7 @@ pub record IsSound (widths : List ℕ) (wires : List Wire) (queues : List WireQu
   pub long : length queues ≡ length wires
   pub jobs_long : length jobs ≡ length widths + 1
   pub ports_long : length ports ≡ length widths + 1
-  pub outputs_long : length outputs ≡ 17
+  pub outputs_long : length outputs ≡ most_outputs + 1
   pub early : (port : ℕ) → (closed_at jobs port).arrival ≤ most_arrival
   pub numbers : (port : ℕ) → (closed_at jobs port).number < 2 ^ 32
   pub feeds : (target : Arrived) → (inbox_of (length wires) ports outputs target).wire ≡ wire_to wires target
@@ -74,14 +74,22 @@ pub record AreReadable (wires : List Wire) (queues : List WireQueue) (ports outp
   pub gaps : (k : ℕ) → k < length queues → (wire_at wires k).gap ≤ most_gap
   pub at : (target : Arrived) → IsCursor (queue_at queues (inbox_of (length wires) ports outputs target).wire) (inbox_of (length wires) ports outputs target).next
   pub few_ports : length ports ≤ most_ports + 1
-  pub few_outputs : length outputs ≤ 17
+  pub few_outputs : length outputs ≤ most_outputs + 1
   pub ports_there : (k j : ℕ) → k < length wires → j < length (wire_at wires k).ports → slice_index_or (wire_at wires k).ports j 0 < length ports
   pub outputs_there : (k j : ℕ) → k < length wires → j < length (wire_at wires k).outputs → slice_index_or (wire_at wires k).outputs j 0 < length outputs
 
--- the table of wires: the wire of each out of each port stands at 9 times the port's number and the out's number
+-- how many entries the table of wires has for a port: one for each number of an out, with 0
+abbrev pub table_row : ℕ
+table_row = most_outs + 1
+
+-- the place of an out of a port in the table of wires
+abbrev pub table_place : ℕ → ℕ → ℕ
+table_place port out = table_row * port + out
+
+-- the table of wires: the place of each out of each port has its wire
 pub record IsTable (wires : List Wire) (table : List ℕ) : Type 0 where
-  pub each : (port out : ℕ) → 9 * port + 8 < length table → out ≤ 8 → slice_index_or table (9 * port + out) (length wires) ≡ wire_of_out wires port out
-  pub outs : (k : ℕ) → k < length wires → (1 ≤ (wire_at wires k).out) × ((wire_at wires k).out ≤ 8)
+  pub each : (port out : ℕ) → table_place port most_outs < length table → out ≤ most_outs → slice_index_or table (table_place port out) (length wires) ≡ wire_of_out wires port out
+  pub outs : (k : ℕ) → k < length wires → (1 ≤ (wire_at wires k).out) × ((wire_at wires k).out ≤ most_outs)
   pub own : (k : ℕ) → k < length wires → wire_of_out wires (wire_at wires k).port (wire_at wires k).out ≡ k
 
 -- what placing the next message of an inbox needs

@@ -6,7 +6,7 @@ use Rattle.yt_grammar.specs.declared.sign.Mark.TheVariants.{Comma}
 use Rattle.yt_grammar.specs.Lexemes.{Tok}
 use Rattle.yt_grammar.specs.Forms.{Form, ◌▹◌, symbol, each, parens}
 use Rattle.yt_grammar.specs.Grammar.{args_form, more_form, rank_of}
-use Rattle.yt_grammar.specs.Reading.{Reader, in_parens, one_or_more, at_mark, exprs_of, args_reader}
+use Rattle.yt_grammar.specs.Inside.Reading.{Reader, in_parens, one_or_more, at_mark, exprs_of, args_reader}
 use Rattle.yt_grammar.proofs.reading.Lawful.{Lawful}
 use Rattle.yt_grammar.proofs.reading.Follows.{NotContinued}
 use Rattle.yt_grammar.proofs.reading.Singles.{Any}

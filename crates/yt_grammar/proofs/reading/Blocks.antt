@@ -8,7 +8,7 @@ use Rattle.yt_grammar.specs.declared.sign.Mark.TheVariants.{LeftBrace, RightBrac
 use Rattle.yt_grammar.specs.Lexemes.{Tok}
 use Rattle.yt_grammar.specs.Forms.{Form, ◌▹◌, symbol, each, braces}
 use Rattle.yt_grammar.specs.Grammar.{stmts_form, body_form}
-use Rattle.yt_grammar.specs.Reading.{many, at_key, at_word, in_braces, at_stmt, stmt_reader, block_reader, block_of}
+use Rattle.yt_grammar.specs.Inside.Reading.{many, at_key, at_word, in_braces, at_stmt, stmt_reader, block_reader, block_of}
 use Rattle.yt_grammar.proofs.reading.Lawful.{Lawful}
 use Rattle.yt_grammar.proofs.reading.Heads.{LooksAhead, and_ahead, or_ahead, second_as, first_as}
 use Rattle.yt_grammar.proofs.reading.Signs.{at_key_ahead, at_word_ahead}

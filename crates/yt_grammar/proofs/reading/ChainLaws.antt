@@ -6,7 +6,7 @@ use Rattle.yt_graph.specs.AstWellFormed.{ast_expr_depth}
 use Rattle.yt_grammar.specs.Lexemes.{Tok}
 use Rattle.yt_grammar.specs.Forms.{Form}
 use Rattle.yt_grammar.specs.Grammar.{op_lexeme, op_rank, right_rank}
-use Rattle.yt_grammar.specs.Reading.{got, stuck, Reader, and_then, op_at, behind, link, chain}
+use Rattle.yt_grammar.specs.Inside.Reading.{got, stuck, Reader, and_then, op_at, behind, link, chain}
 use Rattle.yt_grammar.proofs.reading.Lawful.{SameHead, ReadsFront, StopsBehind, Lawful}
 use Rattle.yt_grammar.proofs.reading.Follows.{NotContinued}
 use Rattle.yt_grammar.proofs.reading.Heads.{same_self}

@@ -8,7 +8,7 @@ use Rattle.yt_graph.specs.AstWellFormed.{ast_expr_depth}
 use Rattle.yt_grammar.specs.Lexemes.{Tok}
 use Rattle.yt_grammar.specs.Forms.{Form}
 use Rattle.yt_grammar.specs.Grammar.{op_lexeme, op_rank, left_rank, right_rank, rank_of, expr_form}
-use Rattle.yt_grammar.specs.Reading.{turns_at}
+use Rattle.yt_grammar.specs.Inside.Reading.{turns_at}
 use Rattle.yt_grammar.proofs.reading.Ranks.{not_eqb, op_left}
 
 -- the tokens spell the expression, which binds no more loosely than a rank and is no deeper than there is room

@@ -2,7 +2,7 @@
 use Rattle.std.proofs.Common.{◌≡◌, ◌⊎◌, inl, inr, Bool, true, false, if◌then◌else◌, Option, None, Some, List, [], ◌++◌, refl, sym, ap, ◌∙◌, subst}
 use Rattle.yt_grammar.specs.Lexemes.{Tok}
 use Rattle.yt_grammar.specs.Forms.{Form, nothing}
-use Rattle.yt_grammar.specs.Reading.{got, stuck, Reader, made, choice, optional}
+use Rattle.yt_grammar.specs.Inside.Reading.{got, stuck, Reader, made, choice, optional}
 use Rattle.yt_grammar.proofs.reading.Lawful.{SameHead, ReadsFront, StopsBehind, Lawful}
 use Rattle.yt_grammar.proofs.reading.Heads.{same_split, LooksAhead}
 use Rattle.yt_grammar.proofs.reading.Many.{if_false}

@@ -1,7 +1,7 @@
 -- The laws of reading expressions.
 use Rattle.std.proofs.Common.{ℕ, zero, suc, arith}
 use Rattle.yt_grammar.specs.Grammar.{value_form}
-use Rattle.yt_grammar.specs.Reading.{expr_reader, value_reader}
+use Rattle.yt_grammar.specs.Inside.Reading.{expr_reader, value_reader}
 use Rattle.yt_grammar.proofs.reading.Lawful.{Lawful}
 use Rattle.yt_grammar.proofs.reading.Follows.{NotContinued}
 use Rattle.yt_grammar.proofs.reading.Singles.{lawful_form}

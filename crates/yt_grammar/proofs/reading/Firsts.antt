@@ -8,7 +8,7 @@ use Rattle.yt_grammar.specs.declared.sign.Mark.TheVariants.{Minus, LeftParen, Ri
 use Rattle.yt_grammar.specs.Lexemes.{Lexeme, word, mark, digits, Tok}
 use Rattle.yt_grammar.specs.Forms.{◌▹◌, symbol, parens}
 use Rattle.yt_grammar.specs.Grammar.{expr_form, args_form, rank_of, left_rank, op_rank, within}
-use Rattle.yt_grammar.specs.Reading.{at_mark, at_key}
+use Rattle.yt_grammar.specs.Inside.Reading.{at_mark, at_key}
 use Rattle.yt_grammar.proofs.reading.Signs.{tok_at, BeginsWith, first_is, one_is, first_named, one_named, begins_follows}
 use Rattle.yt_grammar.proofs.reading.Ranks.{left_tighter, op_ranked}
 

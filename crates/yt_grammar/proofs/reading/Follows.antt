@@ -4,7 +4,7 @@ use Rattle.yt_graph.specs.declared.expr.Op2.{Op2}
 use Rattle.yt_grammar.specs.declared.sign.Mark.TheVariants.{LeftParen}
 use Rattle.yt_grammar.specs.Lexemes.{Tok}
 use Rattle.yt_grammar.specs.Grammar.{op_rank}
-use Rattle.yt_grammar.specs.Reading.{at_mark, op_in}
+use Rattle.yt_grammar.specs.Inside.Reading.{at_mark, op_in}
 
 -- no operator, or one that binds more loosely than this
 abbrev pub IsLooser : ℕ → Option Op2 → Type 0

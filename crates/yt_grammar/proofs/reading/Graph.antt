@@ -5,7 +5,7 @@ use Rattle.yt_grammar.specs.declared.sign.Keyword.TheVariants as keys
 use Rattle.yt_grammar.specs.Lexemes.{Tok, AreTokens}
 use Rattle.yt_grammar.specs.Forms.{each}
 use Rattle.yt_grammar.specs.Grammar.{item_form, Spells, IsFront, IsStuckAt}
-use Rattle.yt_grammar.specs.Reading.{Reading, got, stuck, Reader, and_then, many, at_key, at_item, item_reader, graph_reader}
+use Rattle.yt_grammar.specs.Inside.Reading.{Reading, got, stuck, Reader, and_then, many, at_key, at_item, item_reader, graph_reader}
 use Rattle.yt_grammar.proofs.reading.Lawful.{SameHead, ReadsFront, StopsBehind, Lawful}
 use Rattle.yt_grammar.proofs.reading.Heads.{same_nil, LooksAhead, or_ahead, are_tokens_both, are_tokens_front, drop_nothing, add_nothing}
 use Rattle.yt_grammar.proofs.reading.Signs.{at_key_ahead}

@@ -11,7 +11,7 @@ use Rattle.yt_grammar.specs.declared.sign.Mark.TheVariants.{LeftBrace, RightBrac
 use Rattle.yt_grammar.specs.Lexemes.{Tok, key, mark}
 use Rattle.yt_grammar.specs.Forms.{Form, ◌▹◌, keyword, symbol, named, counted, each, listed, parens, braces}
 use Rattle.yt_grammar.specs.Grammar.{path_form, source_form, out_form, body_form, start_form, var_form, port_form, inside_form, item_form}
-use Rattle.yt_grammar.specs.Reading.{Reader, made, both, choice, optional, many, at_key, behind_key, in_parens, in_braces, word_reader, number_reader, var_reader, port_reader, item_reader}
+use Rattle.yt_grammar.specs.Inside.Reading.{Reader, made, both, choice, optional, many, at_key, behind_key, in_parens, in_braces, word_reader, number_reader, var_reader, port_reader, input_of, output_of, resource_of, process_of, item_reader}
 use Rattle.yt_grammar.proofs.reading.Lawful.{Lawful}
 use Rattle.yt_grammar.proofs.reading.Signs.{tok_at, first_follows, at_key_ahead}
 use Rattle.yt_grammar.proofs.reading.Singles.{Any, lawful_form, lawful_follows, word_lawful, number_lawful}
@@ -98,18 +98,6 @@ ProcessTail r = named r.0 ▹ inside_form r.1.0 ▹ braces (InnerForm r.1.1)
 abbrev ProcessParts : Word × (Option Word × (List VarDecl × List PortDeclTree)) → Form
 ProcessParts r = keyword keys.Process ▹ ProcessTail r
 
--- the trees of the parts
-abbrev input_of : Word × (Num × Num) → ItemTree
-input_of r = input r.0 r.1.0 r.1.1
-
--- of an output
-abbrev output_of : Word × Path → ItemTree
-output_of r = output r.0 r.1
-
--- of a process
-abbrev process_of : Word × (Option Word × (List VarDecl × List PortDeclTree)) → ItemTree
-process_of r = process r.0 r.1.0 r.1.1.0 r.1.1.1
-
 -- the readers of the kinds
 abbrev input_part : Reader ItemTree
 input_part s = made input_of (behind_key keys.Input (both word_reader (both (in_parens number_reader) (behind_key keys.Period number_reader))) s)
@@ -120,7 +108,7 @@ output_part s = made output_of (behind_key keys.Output (both word_reader (behind
 
 -- of a resource
 abbrev resource_part : Reader ItemTree
-resource_part s = made resource (behind_key keys.Resource word_reader s)
+resource_part s = made resource_of (behind_key keys.Resource word_reader s)
 
 -- of a process
 abbrev process_part : Reader ItemTree
@@ -147,8 +135,8 @@ output_lawful =
     (λ y b rest c d. tt)))
 
 -- the law of resources
-resource_lawful : Lawful resource_part (Image resource ResourceParts) Any
-resource_lawful = made_lawful resource (behind_key keys.Resource word_reader) ResourceParts Any (behind_key_lawful keys.Resource word_reader named Any word_lawful)
+resource_lawful : Lawful resource_part (Image resource_of ResourceParts) Any
+resource_lawful = made_lawful resource_of (behind_key keys.Resource word_reader) ResourceParts Any (behind_key_lawful keys.Resource word_reader named Any word_lawful)
 
 -- the law of processes
 process_lawful : Lawful process_part (Image process_of ProcessParts) Any
@@ -162,7 +150,7 @@ process_lawful =
 
 -- the kinds together, from each on
 abbrev FromResource : ItemTree → Form
-FromResource = Either (Image resource ResourceParts) (Image process_of ProcessParts)
+FromResource = Either (Image resource_of ResourceParts) (Image process_of ProcessParts)
 
 -- from outputs on
 abbrev FromOutput : ItemTree → Form
@@ -192,7 +180,7 @@ input_first holds h x w rest c = first_follows holds (key keys.Input) h (named c
 
 -- the laws of the kinds from each on
 from_resource_lawful : Lawful (choice (at_key keys.Resource) resource_part process_part) FromResource Any
-from_resource_lawful = choice_lawful (at_key keys.Resource) resource_part process_part (Image resource ResourceParts) (Image process_of ProcessParts) Any (record {
+from_resource_lawful = choice_lawful (at_key keys.Resource) resource_part process_part (Image resource_of ResourceParts) (Image process_of ProcessParts) Any (record {
   ahead = at_key_ahead keys.Resource;
   one = λ s t. resource_lawful;
   other = λ s t. process_lawful;
@@ -229,10 +217,10 @@ item_there x w (inr (inr (inr c))) = subst (λ v. item_form v w) (sym c.1) c.2
 
 -- and back
 item_back : (x : ItemTree) (w : List Tok) → item_form x w → FromInput x w
-item_back (input x width period) w c = inl ((x, (width, period)), refl, c)
-item_back (output x path) w c = inr (inl ((x, path), refl, c))
-item_back (resource x) w c = inr (inr (inl (x, refl, c)))
-item_back (process x inside vars ports) w c = inr (inr (inr ((x, (inside, (vars, ports))), refl, c)))
+item_back (input i) w c = inl ((i.name, (i.width, i.period)), refl, c)
+item_back (output o) w c = inr (inl ((o.name, o.path), refl, c))
+item_back (resource r) w c = inr (inr (inl (r.name, refl, c)))
+item_back (process p) w c = inr (inr (inr ((p.name, (p.inside, (p.vars, p.ports))), refl, c)))
 
 -- the law of a part of a graph
 pub item_lawful : Lawful item_reader item_form Any

@@ -2,7 +2,7 @@
 use Rattle.std.proofs.Common.{◌≡◌, List, [], ◌∷◌, ◌++◌}
 use Rattle.yt_grammar.specs.Lexemes.{Tok, AreTokens}
 use Rattle.yt_grammar.specs.Forms.{Form}
-use Rattle.yt_grammar.specs.Reading.{got, stuck, Reader}
+use Rattle.yt_grammar.specs.Inside.Reading.{got, stuck, Reader}
 
 -- both end, or both begin with the same token: a reader that looks one token ahead can't tell them apart
 abbrev pub SameHead : List Tok → List Tok → Type 0

@@ -1,7 +1,7 @@
 -- Reading things as long as the tokens begin so, step by step.
 use Rattle.std.proofs.Common.{◌≡◌, ℕ, zero, suc, ◌≤◌, ◌<◌, Bool, true, false, if◌then◌else◌, List, [], ◌∷◌, length, refl, sym, ap, arith}
 use Rattle.yt_grammar.specs.Lexemes.{Tok}
-use Rattle.yt_grammar.specs.Reading.{Reading, got, stuck, Reader, and_then, made, many_of, many}
+use Rattle.yt_grammar.specs.Inside.Reading.{Reading, got, stuck, Reader, and_then, made, many_of, many}
 
 -- each thing takes a token, and no thing begins where there are none
 pub record Steps {X : Type 0} (test : List Tok → Bool) (p : Reader X) : Type 0 where

@@ -8,7 +8,7 @@ use Rattle.yt_grammar.specs.declared.sign.Keyword.TheVariants as keys
 use Rattle.yt_grammar.specs.declared.sign.Mark.TheVariants.{LeftBrace, RightBrace, LeftParen, RightParen, Comma, Dot, Assign, Plus, Minus, Star, Slash, Percent, Less, LessEqual, Greater, GreaterEqual, Equal, NotEqual}
 use Rattle.yt_grammar.specs.Lexemes.{Lexeme, word, key, mark, digits, Tok, keyword_number}
 use Rattle.yt_grammar.specs.Grammar.{op_rank, op_lexeme}
-use Rattle.yt_grammar.specs.Reading.{at_mark, op_in, op_at, behind}
+use Rattle.yt_grammar.specs.Inside.Reading.{at_mark, op_in, op_at, behind}
 use Rattle.yt_grammar.proofs.reading.Lawful.{SameHead}
 use Rattle.yt_grammar.proofs.reading.Follows.{NotContinued, NoOperator, IsLooser}
 use Rattle.yt_grammar.proofs.reading.Signs.{same_keyword, tok_at, tok_is}

@@ -13,7 +13,7 @@ use Rattle.yt_grammar.specs.declared.sign.Mark.TheVariants.{RightParen, Dot, Ass
 use Rattle.yt_grammar.specs.Lexemes.{Tok, word, key, mark, digits}
 use Rattle.yt_grammar.specs.Forms.{Form, ◌▹◌, says, keyword, symbol, named, counted, listed, parens}
 use Rattle.yt_grammar.specs.Grammar.{path_form, source_form, every_form, out_form, start_form, var_form}
-use Rattle.yt_grammar.specs.Reading.{Reader, got, and_then, made, both, choice, optional, one_or_more, at_key, at_mark, behind_key, behind_mark, in_parens, word_reader, number_reader, path_reader, source_reader, out_reader, start_reader, var_reader, params_reader}
+use Rattle.yt_grammar.specs.Inside.Reading.{Reader, got, and_then, made, both, choice, optional, one_or_more, at_key, at_mark, behind_key, behind_mark, in_parens, word_reader, number_reader, path_reader, source_reader, out_reader, start_reader, var_reader, params_reader}
 use Rattle.yt_grammar.proofs.reading.Lawful.{Lawful}
 use Rattle.yt_grammar.proofs.reading.Heads.{second_as, drop_nothing, add_nothing}
 use Rattle.yt_grammar.proofs.reading.Signs.{tok_at, tok_is, BeginsWith, one_is, one_named, first_follows, begins_follows, at_key_ahead, at_mark_ahead}

@@ -9,7 +9,7 @@ use Rattle.yt_grammar.specs.declared.sign.Mark.TheVariants.{LeftBrace, RightBrac
 use Rattle.yt_grammar.specs.Lexemes.{Tok, key, mark}
 use Rattle.yt_grammar.specs.Forms.{Form, ◌▹◌, keyword, symbol, named, counted, each, listed, parens}
 use Rattle.yt_grammar.specs.Grammar.{source_form, every_form, out_form, stmts_form, body_form, port_form}
-use Rattle.yt_grammar.specs.Reading.{both, many, at_key, at_mark, behind_key, word_reader, source_reader, out_reader, params_reader, port_reader, block_reader}
+use Rattle.yt_grammar.specs.Inside.Reading.{both, many, at_key, at_mark, behind_key, word_reader, source_reader, out_reader, params_reader, port_reader, block_reader}
 use Rattle.yt_grammar.proofs.reading.Lawful.{Lawful}
 use Rattle.yt_grammar.proofs.reading.Heads.{front_holds, second_as, group_left, group_right}
 use Rattle.yt_grammar.proofs.reading.Signs.{first_follows, at_key_ahead}

@@ -7,7 +7,7 @@ use Rattle.yt_grammar.specs.declared.sign.Mark.TheVariants.{LeftParen, RightPare
 use Rattle.yt_grammar.specs.Lexemes.{word, mark, digits, Tok}
 use Rattle.yt_grammar.specs.Forms.{Form, ◌▹◌, symbol, named, counted, parens}
 use Rattle.yt_grammar.specs.Grammar.{args_form}
-use Rattle.yt_grammar.specs.Reading.{Reader, got, and_then, made, choice, at_mark, at_number, in_parens, word_reader, number_reader, args_reader, prim_reader}
+use Rattle.yt_grammar.specs.Inside.Reading.{Reader, got, and_then, made, choice, at_mark, at_number, in_parens, word_reader, number_reader, args_reader, prim_reader}
 use Rattle.yt_grammar.proofs.reading.Lawful.{Lawful}
 use Rattle.yt_grammar.proofs.reading.Follows.{NotContinued}
 use Rattle.yt_grammar.proofs.reading.Heads.{looks_ahead}

@@ -7,7 +7,7 @@ use Rattle.yt_grammar.specs.declared.sign.Mark.TheVariants.{Minus}
 use Rattle.yt_grammar.specs.Lexemes.{key, mark, Tok}
 use Rattle.yt_grammar.specs.Forms.{Form, ◌▹◌, symbol, keyword}
 use Rattle.yt_grammar.specs.Grammar.{expr_form, rank_of, op_rank}
-use Rattle.yt_grammar.specs.Reading.{Reader, and_then, made, choice, at_mark, at_key, behind_mark, behind_key, chain, turns_at, prim_reader, rank_reader}
+use Rattle.yt_grammar.specs.Inside.Reading.{Reader, and_then, made, choice, at_mark, at_key, behind_mark, behind_key, chain, turns_at, prim_reader, rank_reader}
 use Rattle.yt_grammar.proofs.reading.Lawful.{Lawful}
 use Rattle.yt_grammar.proofs.reading.Follows.{NotContinued}
 use Rattle.yt_grammar.proofs.reading.Heads.{LooksAhead, looks_ahead}

@@ -5,7 +5,7 @@ use Rattle.std.specs.Prelude.{nat_eq, if◌then◌else◌}
 use Rattle.yt_graph.specs.declared.expr.Op2.{Op2}
 use Rattle.yt_graph.specs.declared.expr.Op2.TheVariants.{Or}
 use Rattle.yt_grammar.specs.Grammar.{op_rank, left_rank, right_rank, op_lexeme}
-use Rattle.yt_grammar.specs.Reading.{op_in}
+use Rattle.yt_grammar.specs.Inside.Reading.{op_in}
 
 -- the right side is of the next tighter rank
 pub op_right : (op : Op2) → suc (right_rank op) ≡ op_rank op

@@ -5,7 +5,7 @@ use Rattle.yt_graph.specs.declared.place.Place.{Place}
 use Rattle.yt_grammar.specs.declared.sign.Mark.TheVariants.{RightParen, Comma}
 use Rattle.yt_grammar.specs.Lexemes.{Tok, mark}
 use Rattle.yt_grammar.specs.Forms.{Form, ◌▹◌, symbol, each, listed}
-use Rattle.yt_grammar.specs.Reading.{Reading, got, stuck, Reader, and_then, made, choice, many_of, many, one_or_more, at_mark, behind_mark}
+use Rattle.yt_grammar.specs.Inside.Reading.{Reading, got, stuck, Reader, and_then, made, choice, many_of, many, one_or_more, at_mark, behind_mark}
 use Rattle.yt_grammar.proofs.reading.Lawful.{ReadsFront, StopsBehind, Lawful}
 use Rattle.yt_grammar.proofs.reading.Heads.{LooksAhead, front_holds}
 use Rattle.yt_grammar.proofs.reading.Many.{Steps, many_is}

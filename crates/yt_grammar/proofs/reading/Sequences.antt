@@ -6,7 +6,7 @@ use Rattle.yt_grammar.specs.declared.sign.Mark.{Mark}
 use Rattle.yt_grammar.specs.declared.sign.Mark.TheVariants.{LeftBrace, RightBrace, LeftParen, RightParen}
 use Rattle.yt_grammar.specs.Lexemes.{Tok, mark}
 use Rattle.yt_grammar.specs.Forms.{Form, ◌▹◌, keyword, symbol, parens, braces}
-use Rattle.yt_grammar.specs.Reading.{Reading, got, stuck, Reader, and_then, made, both, key_reader, mark_reader, behind_key, behind_mark, before_mark, in_parens, in_braces}
+use Rattle.yt_grammar.specs.Inside.Reading.{Reading, got, stuck, Reader, and_then, made, both, key_reader, mark_reader, behind_key, behind_mark, before_mark, in_parens, in_braces}
 use Rattle.yt_grammar.proofs.reading.Lawful.{SameHead, ReadsFront, StopsBehind, Lawful, IsInhabited}
 use Rattle.yt_grammar.proofs.reading.Heads.{same_split, are_tokens_both}
 use Rattle.yt_grammar.proofs.reading.Signs.{tok_at, one_follows}

@@ -8,7 +8,7 @@ use Rattle.yt_grammar.specs.declared.sign.Mark.{Mark}
 use Rattle.yt_grammar.specs.declared.sign.Mark.TheVariants.{LeftBrace, RightBrace, LeftParen, RightParen, Comma, Dot, Assign, Plus, Minus, Star, Slash, Percent, Less, LessEqual, Greater, GreaterEqual, Equal, NotEqual}
 use Rattle.yt_grammar.specs.Lexemes.{Lexeme, word, key, mark, digits, Tok, keyword_number, mark_number, all_keywords, all_marks}
 use Rattle.yt_grammar.specs.Forms.{Form, ◌▹◌, says, named}
-use Rattle.yt_grammar.specs.Reading.{at_key, at_mark, at_word}
+use Rattle.yt_grammar.specs.Inside.Reading.{at_key, at_mark, at_word}
 use Rattle.yt_grammar.proofs.reading.Heads.{LooksAhead, looks_ahead}
 
 -- a reserved word is the one at its number

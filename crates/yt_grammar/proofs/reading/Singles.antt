@@ -8,7 +8,7 @@ use Rattle.yt_grammar.specs.declared.sign.Keyword.{Keyword}
 use Rattle.yt_grammar.specs.declared.sign.Mark.{Mark}
 use Rattle.yt_grammar.specs.Lexemes.{Lexeme, word, key, mark, digits, Tok, IsLexeme, keyword_number, mark_number}
 use Rattle.yt_grammar.specs.Forms.{Form, keyword, symbol, named, counted}
-use Rattle.yt_grammar.specs.Reading.{Reading, got, stuck, Reader, at_key, at_mark, key_reader, mark_reader, word_reader, number_reader}
+use Rattle.yt_grammar.specs.Inside.Reading.{Reading, got, stuck, Reader, at_key, at_mark, key_reader, mark_reader, word_reader, number_reader}
 use Rattle.yt_grammar.proofs.reading.Lawful.{SameHead, ReadsFront, StopsBehind, Lawful}
 use Rattle.yt_grammar.proofs.reading.Signs.{tok_at, keyword_itself, mark_itself, at_key_says, says_at_key, at_mark_says, says_at_mark}
 

@@ -12,7 +12,7 @@ use Rattle.yt_grammar.specs.declared.sign.Mark.TheVariants.{LeftBrace, RightBrac
 use Rattle.yt_grammar.specs.Lexemes.{Tok, word, key, mark}
 use Rattle.yt_grammar.specs.Forms.{Form, ◌▹◌, keyword, symbol, named, counted, parens, braces}
 use Rattle.yt_grammar.specs.Grammar.{value_form, values_form, stmt_form, stmts_form}
-use Rattle.yt_grammar.specs.Reading.{Reader, made, both, choice, optional, at_key, behind_key, behind_mark, word_reader, number_reader, value_reader, values_reader, if_reader, repeat_reader, stmt_reader}
+use Rattle.yt_grammar.specs.Inside.Reading.{Reader, made, both, choice, optional, at_key, behind_key, behind_mark, word_reader, number_reader, value_reader, values_reader, if_reader, repeat_reader, stmt_reader}
 use Rattle.yt_grammar.proofs.reading.Lawful.{Lawful}
 use Rattle.yt_grammar.proofs.reading.Follows.{NotContinued}
 use Rattle.yt_grammar.proofs.reading.Heads.{and_ahead, front_holds, second_as, add_nothing, drop_nothing, group_left, group_right}

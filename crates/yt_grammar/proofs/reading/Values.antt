@@ -6,7 +6,7 @@ use Rattle.yt_grammar.specs.declared.sign.Mark.TheVariants.{LeftParen, RightPare
 use Rattle.yt_grammar.specs.Lexemes.{Tok, word, key, mark, digits}
 use Rattle.yt_grammar.specs.Forms.{Form, ◌▹◌, says, symbol, each, listed, parens}
 use Rattle.yt_grammar.specs.Grammar.{expr_form, args_form, within, right_rank, op_lexeme, value_form, more_values_form, values_form}
-use Rattle.yt_grammar.specs.Reading.{got, choice, one_or_more, at_mark, in_parens, exprs_of, value_reader, values_reader}
+use Rattle.yt_grammar.specs.Inside.Reading.{got, choice, one_or_more, at_mark, in_parens, exprs_of, value_reader, values_reader}
 use Rattle.yt_grammar.proofs.reading.Lawful.{Lawful}
 use Rattle.yt_grammar.proofs.reading.Follows.{NotContinued}
 use Rattle.yt_grammar.proofs.reading.Heads.{front_holds, group_left, group_right, second_as, first_as}

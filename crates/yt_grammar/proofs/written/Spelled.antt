@@ -278,31 +278,31 @@ inside_spelled (Some w) ts ok h =
     name_spelled w a.back a.back_ok a.back_is
 
 item_spelled : (i : ItemTree) (ts : List Tok) → AreTokens ts → item_form i ts → is_item i ≡ true
-item_spelled (input w width period) ts ok h =
+item_spelled (input i) ts ok h =
     let a = parts_of _ _ ts ok h in
     let b = parts_of _ _ a.back a.back_ok a.back_is in
     let c = parts_of _ _ b.back b.back_ok b.back_is in
-    let i = inside_of _ _ _ c.front c.front_ok c.front_is in
+    let w = inside_of _ _ _ c.front c.front_ok c.front_is in
     let d = parts_of _ _ c.back c.back_ok c.back_is in
-    and_true (is_name w.text) (is_count width.value && is_count period.value) (name_spelled w b.front b.front_ok b.front_is)
-    (and_true (is_count width.value) (is_count period.value) (count_spelled width i.0 i.1 i.2) (count_spelled period d.back d.back_ok d.back_is))
-item_spelled (output w path) ts ok h =
+    and_true (is_name i.name.text) (is_count i.width.value && is_count i.period.value) (name_spelled i.name b.front b.front_ok b.front_is)
+    (and_true (is_count i.width.value) (is_count i.period.value) (count_spelled i.width w.0 w.1 w.2) (count_spelled i.period d.back d.back_ok d.back_is))
+item_spelled (output o) ts ok h =
     let a = parts_of _ _ ts ok h in
     let b = parts_of _ _ a.back a.back_ok a.back_is in
     let c = parts_of _ _ b.back b.back_ok b.back_is in
-    and_true (is_name w.text) (is_path path) (name_spelled w b.front b.front_ok b.front_is) (path_spelled path c.back c.back_ok c.back_is)
-item_spelled (resource w) ts ok h =
+    and_true (is_name o.name.text) (is_path o.path) (name_spelled o.name b.front b.front_ok b.front_is) (path_spelled o.path c.back c.back_ok c.back_is)
+item_spelled (resource r) ts ok h =
     let a = parts_of _ _ ts ok h in
-    name_spelled w a.back a.back_ok a.back_is
-item_spelled (process w inside vars ports) ts ok h =
+    name_spelled r.name a.back a.back_ok a.back_is
+item_spelled (process p) ts ok h =
     let a = parts_of _ _ ts ok h in
     let b = parts_of _ _ a.back a.back_ok a.back_is in
     let c = parts_of _ _ b.back b.back_ok b.back_is in
     let i = inside_of _ _ _ c.back c.back_ok c.back_is in
     let d = parts_of _ _ i.0 i.1 i.2 in
-    and_true (is_name w.text) (is_inside inside && (list_all is_var vars && list_all is_port ports)) (name_spelled w b.front b.front_ok b.front_is)
-    (and_true (is_inside inside) (list_all is_var vars && list_all is_port ports) (inside_spelled inside c.front c.front_ok c.front_is)
-    (and_true (list_all is_var vars) (list_all is_port ports) (each_spelled var_form is_var var_spelled vars d.front d.front_ok d.front_is) (each_spelled port_form is_port port_spelled ports d.back d.back_ok d.back_is)))
+    and_true (is_name p.name.text) (is_inside p.inside && (list_all is_var p.vars && list_all is_port p.ports)) (name_spelled p.name b.front b.front_ok b.front_is)
+    (and_true (is_inside p.inside) (list_all is_var p.vars && list_all is_port p.ports) (inside_spelled p.inside c.front c.front_ok c.front_is)
+    (and_true (list_all is_var p.vars) (list_all is_port p.ports) (each_spelled var_form is_var var_spelled p.vars d.front d.front_ok d.front_is) (each_spelled port_form is_port port_spelled p.ports d.back d.back_ok d.back_is)))
 
 pub spelled_writable : (items : List ItemTree) (ts : List Tok) → Spells ts items → is_writable items ≡ true
 spelled_writable items ts h = each_spelled item_form is_item item_spelled items ts h.0 h.1

@@ -10,9 +10,9 @@ use Rattle.yt_graph.specs.declared.ast.Source.TheVariants.{Input, Out}
 use Rattle.yt_graph.specs.declared.ast.VarDecl.{VarDecl}
 use Rattle.yt_graph.specs.declared.ast.OutDecl.{OutDecl}
 use Rattle.yt_graph.specs.AstPicture.{AstExprTree, number, name, minus, negation, two_sides, paren, call_of, AstExprsTree, no_values, more_values, AstStmtTree, let_local, assign, send_on, when_only, when_else, turns, AstBlockTree, no_stmts, more_stmts, PortDeclTree, ItemTree, input, output, resource, process}
-use Rattle.yt_graph.specs.AstWellFormed.{IsName, IsWrittenNumber, ast_block_depth, HasOne, IsWritableExpr, AreWritableExprs, IsWritableValue, IsWritableStmt, IsWritableBlock, IsWritablePath, IsWritableSource, IsWritableEvery, IsWritableOut, IsWritablePort, IsWritableInside, IsWritableItem}
+use Rattle.yt_graph.specs.AstWellFormed.{IsName, IsWrittenNumber, ast_block_depth, HasOne, IsWritableExpr, AreWritableExprs, IsWritableValue, IsWritableStmt, IsWritableBlock, IsWritablePath, IsWritableSource, IsWritableEvery, IsWritableOut, IsWritablePort, IsWritableInside, IsWritableItem, IsWritable}
 use Rattle.yt_grammar.specs.Grammar.{SpelledIsWritable}
-use Rattle.yt_grammar.specs.Writable.{is_count, is_expr, are_args, are_exprs, is_stmt, are_stmts, is_path, is_source, is_every, is_out, is_var, is_param, is_port, is_inside, is_item}
+use Rattle.yt_grammar.specs.Writable.{is_count, is_expr, are_args, are_exprs, is_stmt, are_stmts, is_path, is_source, is_every, is_out, is_var, is_param, is_port, is_inside, is_item, is_writable}
 use Rattle.yt_grammar.proofs.written.Tests.{both}
 use Rattle.yt_grammar.proofs.written.Depths.{expr_within, exprs_within, stmts_within}
 use Rattle.yt_grammar.proofs.written.Spelled.{spelled_writable}
@@ -124,19 +124,22 @@ inside_formed None h = tt
 inside_formed (Some w) h = h
 
 item_formed : (i : ItemTree) → is_item i ≡ true → IsWritableItem i
-item_formed (input w width period) h =
+item_formed (input i) h =
     let a = both _ _ h in
     let b = both _ _ a.1 in
-    (a.0, count_formed width.value b.0, count_formed period.value b.1)
-item_formed (output w path) h =
+    (a.0, count_formed i.width.value b.0, count_formed i.period.value b.1)
+item_formed (output o) h =
     let a = both _ _ h in
-    (a.0, path_formed path a.1)
-item_formed (resource w) h = h
-item_formed (process w inside vars ports) h =
+    (a.0, path_formed o.path a.1)
+item_formed (resource r) h = h
+item_formed (process p) h =
     let a = both _ _ h in
     let b = both _ _ a.1 in
     let c = both _ _ b.1 in
-    (a.0, inside_formed inside b.0, all_from (λ (v : VarDecl). IsName v.name) is_var var_formed vars c.0, all_from IsWritablePort is_port port_formed ports c.1)
+    (a.0, inside_formed p.inside b.0, all_from (λ (v : VarDecl). IsName v.name) is_var var_formed p.vars c.0, all_from IsWritablePort is_port port_formed p.ports c.1)
+
+pub writable_formed : (items : List ItemTree) → is_writable items ≡ true → IsWritable items
+writable_formed items h = all_from IsWritableItem is_item item_formed items h
 
 pub spelled_is_writable : SpelledIsWritable
-spelled_is_writable toks items h = all_from IsWritableItem is_item item_formed items (spelled_writable items toks h)
+spelled_is_writable toks items h = writable_formed items (spelled_writable items toks h)

@@ -243,20 +243,20 @@ inside_some None h = none_some
 inside_some (Some w) h = then_some (key_some keys.In) (name_some w h)
 
 item_some : (i : ItemTree) → is_item i ≡ true → Some_of (item_form i)
-item_some (input w width period) h =
+item_some (input i) h =
     let a = both _ _ h in
     let b = both _ _ a.1 in
-    then_some (key_some keys.Input) (then_some (name_some w a.0) (then_some (parens_some (count_some width b.0)) (then_some (key_some keys.Period) (count_some period b.1))))
-item_some (output w path) h =
+    then_some (key_some keys.Input) (then_some (name_some i.name a.0) (then_some (parens_some (count_some i.width b.0)) (then_some (key_some keys.Period) (count_some i.period b.1))))
+item_some (output o) h =
     let a = both _ _ h in
-    then_some (key_some keys.Output) (then_some (name_some w a.0) (then_some (key_some keys.From) (path_some path a.1)))
-item_some (resource w) h = then_some (key_some keys.Resource) (name_some w h)
-item_some (process w inside vars ports) h =
+    then_some (key_some keys.Output) (then_some (name_some o.name a.0) (then_some (key_some keys.From) (path_some o.path a.1)))
+item_some (resource r) h = then_some (key_some keys.Resource) (name_some r.name h)
+item_some (process p) h =
     let a = both _ _ h in
     let b = both _ _ a.1 in
     let c = both _ _ b.1 in
-    then_some (key_some keys.Process) (then_some (name_some w a.0) (then_some (inside_some inside b.0)
-    (braces_some (then_some (each_some var_form is_var var_some vars c.0) (each_some port_form is_port port_some ports c.1)))))
+    then_some (key_some keys.Process) (then_some (name_some p.name a.0) (then_some (inside_some p.inside b.0)
+    (braces_some (then_some (each_some var_form is_var var_some p.vars c.0) (each_some port_form is_port port_some p.ports c.1)))))
 
 pub writable_written : (items : List ItemTree) → is_writable items ≡ true → IsWritten items
 writable_written items h =

@@ -1,12 +1,12 @@
 //! The first tick at which a log breaks a rule.
-#![tactic(auto, using(crate::proofs::Places::task_read), unfolding(crate::specs::Heads::item_at, crate::specs::Heads::head_at))]
+#![tactic(auto, using(crate::proofs::Places::task_read), unfolding(crate::specs::Inside::Heads::item_at, crate::specs::Inside::Heads::head_at))]
 
 ghost use Rattle.std.specs.Prelude.{◌≡◌, ◌↔◌, ℕ, ◌<◌, ◌≤◌, length, IfErr, IfNone, IfOk, IfSome, IsFalse, IsNone, IsTrue, None, Some};
 ghost use Rattle.std.specs.List.{All};
 ghost use Rattle.yt_set.specs.Tasks.{IsTaskSet};
 ghost use Rattle.yt_log.specs.EdfDdm.{choice};
-ghost use Rattle.yt_log.specs.Following.{Follows, IsStretch};
-ghost use Rattle.yt_log.specs.Heads.{KeepsResource, head_at, item_of};
+ghost use Rattle.yt_log.specs.Inside.Following.{Follows, IsStretch};
+ghost use Rattle.yt_log.specs.Inside.Heads.{KeepsResource, head_at, item_of};
 ghost use Rattle.yt_log.specs.Judging.{IsFirstBroken, IsUnbroken, JobWaits};
 ghost use Rattle.yt_log.specs.Plan.{IsLegalPlan};
 ghost use Rattle.yt_log.specs.Tasks.{Has, task_of};

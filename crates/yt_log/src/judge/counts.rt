@@ -1,6 +1,6 @@
 //! Counting over the segments of a log.
 ghost use Rattle.std.specs.Prelude.{◌≡◌, ℕ, ◌<◌, ◌≤◌, ◌==◌, ◌&&◌, length, nat_lt};
-ghost use Rattle.yt_log.specs.Counts.{AreOrdered, IsNoLater, segment_at, share, ticks_below};
+ghost use Rattle.yt_log.specs.Inside.Counts.{AreOrdered, IsNoLater, segment_at, share, ticks_below};
 
 use crate::job::{Job, Segment};
 

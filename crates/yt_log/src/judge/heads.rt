@@ -1,5 +1,5 @@
 //! The first unfinished job of each task, which tells where the next tick goes.
-#![tactic(auto, unfolding(crate::specs::Heads::item_at, crate::specs::Heads::head_at))]
+#![tactic(auto, unfolding(crate::specs::Inside::Heads::item_at, crate::specs::Inside::Heads::head_at))]
 
 ghost use Rattle.std.specs.Prelude.{◌≡◌, ◌↔◌, ℕ, suc, ◌+◌, ◌^◌, ◌<◌, ◌≤◌, [], ◌∷◌, length, IfNone, IfSome, IsTrue};
 ghost use Rattle.std.specs.List.{All};
@@ -8,7 +8,7 @@ ghost use Rattle.yt_set.specs.Limits.{most_tasks};
 ghost use Rattle.yt_log.specs.Limits.{most_arrival};
 ghost use Rattle.yt_log.specs.EdfDdm.{lowered};
 ghost use Rattle.yt_order.specs.Words.{precedes};
-ghost use Rattle.yt_log.specs.Heads.{Leads, Starts, Waits, head_at, head_rank, item_of, ran};
+ghost use Rattle.yt_log.specs.Inside.Heads.{Leads, Starts, Waits, head_at, head_rank, item_of, ran};
 ghost use Rattle.yt_log.specs.Plan.{its_task};
 
 use crate::plan::PlanItem;
@@ -120,7 +120,7 @@ fn waits(items: &[PlanItem], head: Head, tick: u64) -> bool
 }
 
 /// Whether a head comes before another: by its current deadline; begun before not begun; by arrival, task and number.
-#[tactic(auto, unfolding(yt_order::specs::Words::precedes, crate::specs::Heads::head_rank, crate::specs::Heads::item_at))]
+#[tactic(auto, unfolding(yt_order::specs::Words::precedes, crate::specs::Inside::Heads::head_rank, crate::specs::Inside::Heads::item_at))]
 fn precedes(items: &[PlanItem], head: Head, other: Head) -> bool
     requires head { head.place < length items.now }
     requires other { other.place < length items.now }
@@ -207,7 +207,7 @@ pub(super) fn moved(set: &TaskSet, items: &[PlanItem], head: Head, tick: u64, ti
     }
 }
 
-/// The deadline of an item whose first tick is `first`, lowered by the floor of its resource.
+/// The deadline of an item whose first tick is `first`, lowered by the deadline floor of its resource.
 fn lowered(set: &TaskSet, item: PlanItem, due: u64, first: u64) -> u64
     requires from_one { 1 ≤ item.job.task }
     requires in_set { item.job.task ≤ length set.now }

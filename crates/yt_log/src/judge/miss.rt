@@ -1,7 +1,7 @@
 //! The first miss of a log.
 ghost use Rattle.std.specs.Prelude.{◌≡◌, ◌↔◌, ℕ, ◌+◌, ◌-◌, ◌<◌, ◌≤◌, length, slice_index, IfNone, IfSome, IsNone, MatchOption};
 ghost use Rattle.yt_log.specs.declared.plan.PlanItem.{PlanItem};
-ghost use Rattle.yt_log.specs.Counts.{AreOrdered, Judges, Passes, rank_of, segment_at, sooner, ticks_below};
+ghost use Rattle.yt_log.specs.Inside.Counts.{AreOrdered, Judges, Passes, rank_of, segment_at, sooner_miss, ticks_below};
 ghost use Rattle.yt_order.specs.Words.{precedes};
 ghost use Rattle.yt_log.specs.Judging.{IsFirstMiss};
 ghost use Rattle.yt_log.specs.Plan.{IsLegal, deadline_of};
@@ -19,6 +19,7 @@ use yt_set::{MOST_TASKS, TaskSet};
 pub struct Miss {
     /// Its deadline.
     pub due: u64,
+    /// The job.
     pub job: Job,
 }
 
@@ -89,18 +90,19 @@ fn due_by(set: &TaskSet, item: &PlanItem, upto: u64) -> Option<u64>
     requires in_set { item.now.job.task ≤ length set.now }
     ensures { MatchOption result (upto < deadline_of set.now item.now) (λ due. (due ≡ deadline_of set.now item.now) × (due ≤ upto)) }
 {
-    let period = set.task(item.job.task).period;
-    if item.arrival <= upto && period <= upto - item.arrival {
-        Some(item.arrival + period)
+    let task = set.task(item.job.task);
+    let within = task.within();
+    if item.arrival <= upto && within <= upto - item.arrival {
+        Some(task.deadline(item.arrival))
     } else {
         None
     }
 }
 
 /// Of two misses the one that comes first.
-#[tactic(auto, unfolding(crate::specs::Counts::sooner))]
+#[tactic(auto, unfolding(crate::specs::EdfDdm::sooner, crate::specs::Inside::Counts::sooner_miss))]
 fn sooner(first: Option<Miss>, other: Option<Miss>) -> Option<Miss>
-    ensures { result ≡ sooner first other }
+    ensures { result ≡ sooner_miss first other }
 {
     match (first, other) {
         (Some(miss), Some(next)) if precedes(&next, &miss) => other,
@@ -110,7 +112,7 @@ fn sooner(first: Option<Miss>, other: Option<Miss>) -> Option<Miss>
 }
 
 /// Whether a miss comes before another: by deadline, then task, then number.
-#[tactic(auto, unfolding(yt_order::specs::Words::precedes, crate::specs::Counts::rank_of))]
+#[tactic(auto, unfolding(yt_order::specs::Words::precedes, crate::specs::Inside::Counts::rank_of))]
 fn precedes(miss: &Miss, other: &Miss) -> bool
     ensures { result ≡ precedes (rank_of miss.now) (rank_of other.now) }
 {

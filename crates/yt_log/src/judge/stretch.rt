@@ -1,9 +1,9 @@
 //! The stretches of a log: ticks that all went to one job, or were all idle.
-#![tactic(auto, unfolding(crate::specs::Counts::segment_at))]
+#![tactic(auto, unfolding(crate::specs::Inside::Counts::segment_at))]
 
 ghost use Rattle.std.specs.Prelude.{◌<◌, ◌≤◌, length};
-ghost use Rattle.yt_log.specs.Counts.{segment_at};
-ghost use Rattle.yt_log.specs.Following.{IsStretch, Reads};
+ghost use Rattle.yt_log.specs.Inside.Counts.{segment_at};
+ghost use Rattle.yt_log.specs.Inside.Following.{IsStretch, Reads};
 ghost use Rattle.yt_log.specs.Segments.{segments_of};
 
 use crate::job::Job;

@@ -35,11 +35,11 @@ pub record IsGoodPort (all : List ItemTree) (ops : List OpHead) (vars : List Var
 
 -- the same of a part of a graph
 abbrev pub IsGoodItem : List ItemTree → List OpHead → ItemTree → Type 0
-IsGoodItem all ops (input w width period) = IsWithin 0 8 (size_of width.value) × IsWithin 1 1000000 (size_of period.value)
-IsGoodItem all ops (output w path) = err_faults (look_up all path) ≡ []
-IsGoodItem all ops (resource w) = Unit {0}
-IsGoodItem all ops (process w inside vars ports) =
-    (inside_faults all inside ≡ []) × AreDifferent (var_names vars) × AreDifferent (port_names ports) × Each (IsGoodPort all ops vars) ports
+IsGoodItem all ops (input i) = IsWithin 0 8 (size_of i.width.value) × IsWithin 1 1000000 (size_of i.period.value)
+IsGoodItem all ops (output o) = err_faults (look_up all o.path) ≡ []
+IsGoodItem all ops (resource r) = Unit {0}
+IsGoodItem all ops (process p) =
+    (inside_faults all p.inside ≡ []) × AreDifferent (var_names p.vars) × AreDifferent (port_names p.ports) × Each (IsGoodPort all ops p.vars) p.ports
 
 -- no chain of sources comes back, from the port of a number on
 abbrev pub NoneBack : List (Option ℕ) → ℕ → List PortDeclTree → Type 0
@@ -160,22 +160,22 @@ module _ (all : List ItemTree) (ops : List OpHead) where
 
   item_good : (n first : ℕ) (room : Room) (i : ItemTree) → is_some (first_of (item_name i) 0 (item_names all)) ≡ true → item_faults all ops n first room i ≡ []
       → ItemGood all ops n first (first_of (item_name i) 0 (item_names all)) i
-  item_good n first room (input w width period) s e =
-      let a = no_part (declared_faults w n (first_of w.text 0 (item_names all)) room.inputs limit.TheVariants.Inputs) (range_faults 0 8 width limit.TheVariants.Width ++ range_faults 1 1000000 period limit.TheVariants.Period) e in
-      let b = no_part (range_faults 0 8 width limit.TheVariants.Width) (range_faults 1 1000000 period limit.TheVariants.Period) a.1 in
-      record { own = first_own w n _ room.inputs _ s a.0; good = (in_range 0 8 width _ b.0, in_range 1 1000000 period _ b.1); back = tt }
-  item_good n first room (output w path) s e =
-      let a = no_part (declared_faults w n (first_of w.text 0 (item_names all)) room.outputs limit.TheVariants.Outputs) (err_faults (look_up all path)) e in
-      record { own = first_own w n _ room.outputs _ s a.0; good = a.1; back = tt }
-  item_good n first room (resource w) s e = record { own = first_own w n _ room.resources _ s e; good = tt; back = tt }
-  item_good n first room (process w inside vars ports) s e =
+  item_good n first room (input i) s e =
+      let a = no_part (declared_faults i.name n (first_of i.name.text 0 (item_names all)) room.inputs limit.TheVariants.Inputs) (range_faults 0 8 i.width limit.TheVariants.Width ++ range_faults 1 1000000 i.period limit.TheVariants.Period) e in
+      let b = no_part (range_faults 0 8 i.width limit.TheVariants.Width) (range_faults 1 1000000 i.period limit.TheVariants.Period) a.1 in
+      record { own = first_own i.name n _ room.inputs _ s a.0; good = (in_range 0 8 i.width _ b.0, in_range 1 1000000 i.period _ b.1); back = tt }
+  item_good n first room (output o) s e =
+      let a = no_part (declared_faults o.name n (first_of o.name.text 0 (item_names all)) room.outputs limit.TheVariants.Outputs) (err_faults (look_up all o.path)) e in
+      record { own = first_own o.name n _ room.outputs _ s a.0; good = a.1; back = tt }
+  item_good n first room (resource r) s e = record { own = first_own r.name n _ room.resources _ s e; good = tt; back = tt }
+  item_good n first room (process p) s e =
       let a = no_part _ _ e in
       let b = no_part _ _ a.1 in
       let c = no_part _ _ b.1 in
-      let walked = ports_good all ops vars ports first room.ports c.1 in
+      let walked = ports_good all ops p.vars p.ports first room.ports c.1 in
       record {
-        own = first_own w n _ room.processes _ s a.0;
-        good = (b.0, vars_differ vars room.vars c.0, ports_differ all ops vars ports first walked, walked.good);
+        own = first_own p.name n _ room.processes _ s a.0;
+        good = (b.0, vars_differ p.vars room.vars c.0, ports_differ all ops p.vars p.ports first walked, walked.good);
         back = walked.back;
       }
 

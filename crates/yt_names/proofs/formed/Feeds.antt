@@ -16,7 +16,7 @@ use Rattle.yt_graph.specs.declared.ast.VarDecl.{VarDecl}
 use Rattle.yt_graph.specs.declared.ast.OutDecl.{OutDecl}
 use Rattle.yt_graph.specs.declared.operator.OpHead.{OpHead}
 use Rattle.yt_graph.specs.declared.graph as graph
-use Rattle.yt_graph.specs.AstPicture.{PortDeclTree, ItemTree, input, output, resource, process}
+use Rattle.yt_graph.specs.AstPicture.{PortDeclTree, InputTree, ResourceTree, ItemTree, input, output, resource, process}
 use Rattle.yt_graph.specs.Picture.{PortTree}
 use Rattle.yt_graph.specs.WellFormed.{IsOutAnd, IsFeedOfWidth}
 use Rattle.yt_name_faults.specs.declared.fault.NameFault.{NameFault}
@@ -84,57 +84,57 @@ input_later word x xs width e h = record {
   there = h.there;
 }
 
-input_at : (word : List ℕ) (items : List ItemTree) (name : Word) (width period : Num) → named word items ≡ Some (input name width period) → InputAt word (flat_map inputs_of items) width
-input_at word [] name width period e = absurd (cc)
-input_at word (input w wd pd ∷ rest) name width period e = by (bytes_eq word w.text) refl e (input_at word rest name width period)
+input_at : (word : List ℕ) (items : List ItemTree) (found : InputTree) → named word items ≡ Some (input found) → InputAt word (flat_map inputs_of items) found.width
+input_at word [] found e = absurd (cc)
+input_at word (input i ∷ rest) found e = by (bytes_eq word i.name.text) refl e (input_at word rest found)
   where
-    by : (b : Bool) → bytes_eq word w.text ≡ b → cond b (Some (input w wd pd)) (named word rest) ≡ Some (input name width period)
-        → (named word rest ≡ Some (input name width period) → InputAt word (flat_map inputs_of rest) width) → InputAt word (flat_map inputs_of (input w wd pd ∷ rest)) width
-    by true p h r = let same : wd ≡ width = cc in input_here word (record { name = w.text; width = count_of wd; period = size_of pd.value }) (flat_map inputs_of rest) width p (ap count_of same)
-    by false p h r = input_later word (record { name = w.text; width = count_of wd; period = size_of pd.value }) (flat_map inputs_of rest) width p (r h)
-input_at word (output w path ∷ rest) name width period e = by (bytes_eq word w.text) e (input_at word rest name width period)
+    by : (b : Bool) → bytes_eq word i.name.text ≡ b → cond b (Some (input i)) (named word rest) ≡ Some (input found)
+        → (named word rest ≡ Some (input found) → InputAt word (flat_map inputs_of rest) found.width) → InputAt word (flat_map inputs_of (input i ∷ rest)) found.width
+    by true p h r = let same : i.width ≡ found.width = cc in input_here word (record { name = i.name.text; width = count_of i.width; period = size_of i.period.value }) (flat_map inputs_of rest) found.width p (ap count_of same)
+    by false p h r = input_later word (record { name = i.name.text; width = count_of i.width; period = size_of i.period.value }) (flat_map inputs_of rest) found.width p (r h)
+input_at word (output o ∷ rest) found e = by (bytes_eq word o.name.text) e (input_at word rest found)
   where
-    by : (b : Bool) → cond b (Some (output w path)) (named word rest) ≡ Some (input name width period)
-        → (named word rest ≡ Some (input name width period) → InputAt word (flat_map inputs_of rest) width) → InputAt word (flat_map inputs_of rest) width
+    by : (b : Bool) → cond b (Some (output o)) (named word rest) ≡ Some (input found)
+        → (named word rest ≡ Some (input found) → InputAt word (flat_map inputs_of rest) found.width) → InputAt word (flat_map inputs_of rest) found.width
     by true h r = absurd (cc)
     by false h r = r h
-input_at word (resource w ∷ rest) name width period e = by (bytes_eq word w.text) e (input_at word rest name width period)
+input_at word (resource r ∷ rest) found e = by (bytes_eq word r.name.text) e (input_at word rest found)
   where
-    by : (b : Bool) → cond b (Some (resource w)) (named word rest) ≡ Some (input name width period)
-        → (named word rest ≡ Some (input name width period) → InputAt word (flat_map inputs_of rest) width) → InputAt word (flat_map inputs_of rest) width
+    by : (b : Bool) → cond b (Some (resource r)) (named word rest) ≡ Some (input found)
+        → (named word rest ≡ Some (input found) → InputAt word (flat_map inputs_of rest) found.width) → InputAt word (flat_map inputs_of rest) found.width
     by true h r = absurd (cc)
     by false h r = r h
-input_at word (process w inside vars ports ∷ rest) name width period e = by (bytes_eq word w.text) e (input_at word rest name width period)
+input_at word (process p ∷ rest) found e = by (bytes_eq word p.name.text) e (input_at word rest found)
   where
-    by : (b : Bool) → cond b (Some (process w inside vars ports)) (named word rest) ≡ Some (input name width period)
-        → (named word rest ≡ Some (input name width period) → InputAt word (flat_map inputs_of rest) width) → InputAt word (flat_map inputs_of rest) width
+    by : (b : Bool) → cond b (Some (process p)) (named word rest) ≡ Some (input found)
+        → (named word rest ≡ Some (input found) → InputAt word (flat_map inputs_of rest) found.width) → InputAt word (flat_map inputs_of rest) found.width
     by true h r = absurd (cc)
     by false h r = r h
 
 -- a resource that a name stands for is among the resources
-resource_there : (word : List ℕ) (items : List ItemTree) (name : Word) → named word items ≡ Some (resource name) → list_any (bytes_eq word) (flat_map resources_of items) ≡ true
-resource_there word [] name e = absurd (cc)
-resource_there word (input w width period ∷ rest) name e = by (bytes_eq word w.text) e (resource_there word rest name)
+resource_there : (word : List ℕ) (items : List ItemTree) (found : ResourceTree) → named word items ≡ Some (resource found) → list_any (bytes_eq word) (flat_map resources_of items) ≡ true
+resource_there word [] found e = absurd (cc)
+resource_there word (input i ∷ rest) found e = by (bytes_eq word i.name.text) e (resource_there word rest found)
   where
-    by : (b : Bool) → cond b (Some (input w width period)) (named word rest) ≡ Some (resource name) → (named word rest ≡ Some (resource name) → list_any (bytes_eq word) (flat_map resources_of rest) ≡ true)
+    by : (b : Bool) → cond b (Some (input i)) (named word rest) ≡ Some (resource found) → (named word rest ≡ Some (resource found) → list_any (bytes_eq word) (flat_map resources_of rest) ≡ true)
         → list_any (bytes_eq word) (flat_map resources_of rest) ≡ true
     by true h r = absurd (cc)
     by false h r = r h
-resource_there word (output w path ∷ rest) name e = by (bytes_eq word w.text) e (resource_there word rest name)
+resource_there word (output o ∷ rest) found e = by (bytes_eq word o.name.text) e (resource_there word rest found)
   where
-    by : (b : Bool) → cond b (Some (output w path)) (named word rest) ≡ Some (resource name) → (named word rest ≡ Some (resource name) → list_any (bytes_eq word) (flat_map resources_of rest) ≡ true)
+    by : (b : Bool) → cond b (Some (output o)) (named word rest) ≡ Some (resource found) → (named word rest ≡ Some (resource found) → list_any (bytes_eq word) (flat_map resources_of rest) ≡ true)
         → list_any (bytes_eq word) (flat_map resources_of rest) ≡ true
     by true h r = absurd (cc)
     by false h r = r h
-resource_there word (resource w ∷ rest) name e = by (bytes_eq word w.text) e (resource_there word rest name)
+resource_there word (resource r ∷ rest) found e = by (bytes_eq word r.name.text) e (resource_there word rest found)
   where
-    by : (b : Bool) → cond b (Some (resource w)) (named word rest) ≡ Some (resource name) → (named word rest ≡ Some (resource name) → list_any (bytes_eq word) (flat_map resources_of rest) ≡ true)
+    by : (b : Bool) → cond b (Some (resource r)) (named word rest) ≡ Some (resource found) → (named word rest ≡ Some (resource found) → list_any (bytes_eq word) (flat_map resources_of rest) ≡ true)
         → (b || list_any (bytes_eq word) (flat_map resources_of rest)) ≡ true
     by true h r = refl
     by false h r = r h
-resource_there word (process w inside vars ports ∷ rest) name e = by (bytes_eq word w.text) e (resource_there word rest name)
+resource_there word (process p ∷ rest) found e = by (bytes_eq word p.name.text) e (resource_there word rest found)
   where
-    by : (b : Bool) → cond b (Some (process w inside vars ports)) (named word rest) ≡ Some (resource name) → (named word rest ≡ Some (resource name) → list_any (bytes_eq word) (flat_map resources_of rest) ≡ true)
+    by : (b : Bool) → cond b (Some (process p)) (named word rest) ≡ Some (resource found) → (named word rest ≡ Some (resource found) → list_any (bytes_eq word) (flat_map resources_of rest) ≡ true)
         → list_any (bytes_eq word) (flat_map resources_of rest) ≡ true
     by true h r = absurd (cc)
     by false h r = r h
@@ -148,10 +148,10 @@ inside_there all w e = by (placed_named all w.text) (named_is all w.text) e
     by (Some p) n h = on p.item (sym n) (no_cause (not (is_resource p.item)) _ h)
       where
         on : (i : ItemTree) → named w.text all ≡ Some i → not (is_resource i) ≡ false → list_any (bytes_eq w.text) (flat_map resources_of all) ≡ true
-        on (input x width period) m k = absurd (true≢false k)
-        on (output x path) m k = absurd (true≢false k)
-        on (resource x) m k = resource_there w.text all x m
-        on (process x inside vars ports) m k = absurd (true≢false k)
+        on (input i) m k = absurd (true≢false k)
+        on (output o) m k = absurd (true≢false k)
+        on (resource r) m k = resource_there w.text all r m
+        on (process p) m k = absurd (true≢false k)
 
 -- what a path without faults leads to
 pub record LeadsTo (all : List ItemTree) (t : Target) : Type 0 where
@@ -185,10 +185,10 @@ module _ (all : List ItemTree) (path : Path) (t : Target) where
   number_leads (Some port) h = port_leads port (slice_get (all_ports all) port) refl h
 
   part_leads : (first : ℕ) (i : ItemTree) → in_part all path first i ≡ Ok t → LeadsTo all t
-  part_leads first (input w width period) h = absurd (cc)
-  part_leads first (output w other) h = absurd (cc)
-  part_leads first (resource w) h = absurd (cc)
-  part_leads first (process w inside vars ports) h = number_leads (first_of path.port.text first (port_names ports)) h
+  part_leads first (input i) h = absurd (cc)
+  part_leads first (output o) h = absurd (cc)
+  part_leads first (resource r) h = absurd (cc)
+  part_leads first (process p) h = number_leads (first_of path.port.text first (port_names p.ports)) h
 
   placed_leads : (o : Option Placed) → in_placed all path o ≡ Ok t → LeadsTo all t
   placed_leads None h = absurd (cc)
@@ -226,10 +226,10 @@ input_of all port params w e =
     by (placed_named all w.text) n.0 (named_is all w.text) n.1 n.2
   where
     on : (i : ItemTree) (n : Num) → named w.text all ≡ Some i → input_width w i ≡ Ok n → n.value ≡ pos params → (width : Num) × InputAt w.text (flat_map inputs_of all) width × (width.value ≡ pos params)
-    on (input x width period) n m h v = let same : width ≡ n = cc in (width, input_at w.text all x width period m, ap (λ k. k.value) same ∙ v)
-    on (output x path) n m h v = absurd (cc)
-    on (resource x) n m h v = absurd (cc)
-    on (process x inside vars ports) n m h v = absurd (cc)
+    on (input i) n m h v = let same : i.width ≡ n = cc in (i.width, input_at w.text all i m, ap (λ k. k.value) same ∙ v)
+    on (output o) n m h v = absurd (cc)
+    on (resource r) n m h v = absurd (cc)
+    on (process p) n m h v = absurd (cc)
 
     by : (o : Option Placed) (n : Num) → item_of o ≡ named w.text all → width_at w o ≡ Ok n → n.value ≡ pos params → (width : Num) × InputAt w.text (flat_map inputs_of all) width × (width.value ≡ pos params)
     by None n m h v = absurd (cc)
@@ -246,13 +246,13 @@ module _ {Y : Type 0} (h : PortTree → Y) (k : PortDeclTree → Y) (all : List 
 
   ports_map : (first : ℕ) (items : List ItemTree) → map h (resolved_ports all ops first items) ≡ map k (flat_map ports_of items)
   ports_map first [] = refl
-  ports_map first (input w width period ∷ rest) = ports_map (first + 0) rest
-  ports_map first (output w path ∷ rest) = ports_map (first + 0) rest
-  ports_map first (resource w ∷ rest) = ports_map (first + 0) rest
-  ports_map first (process w inside vars ports ∷ rest) =
-      process_maps w.text (resource_name w inside) vars first ports (resolved_ports all ops (first + length (vars_of (process w inside vars ports))) rest) (map k (flat_map ports_of rest))
-      (ports_map (first + length (vars_of (process w inside vars ports))) rest)
-      ∙ sym (map-append k ports (flat_map ports_of rest))
+  ports_map first (input i ∷ rest) = ports_map (first + 0) rest
+  ports_map first (output o ∷ rest) = ports_map (first + 0) rest
+  ports_map first (resource r ∷ rest) = ports_map (first + 0) rest
+  ports_map first (process p ∷ rest) =
+      process_maps p.name.text (resource_name p.name p.inside) p.vars first p.ports (resolved_ports all ops (first + length (vars_of (process p))) rest) (map k (flat_map ports_of rest))
+      (ports_map (first + length (vars_of (process p))) rest)
+      ∙ sym (map-append k p.ports (flat_map ports_of rest))
 
   read_back : (o : Option PortTree) (y : Y) → option_map h o ≡ Some y → IsSomeAnd o (λ q. h q ≡ y)
   read_back None y e = absurd (cc)
@@ -272,11 +272,11 @@ IsFed all p = (width_faults p.name (length p.params) (source_width all p.source)
 
 pub all_fed : (all : List ItemTree) (ops : List OpHead) (items : List ItemTree) → Each (IsGoodItem all ops) items → Each (IsFed all) (flat_map ports_of items)
 all_fed all ops [] h = tt
-all_fed all ops (input w width period ∷ rest) h = all_fed all ops rest h.1
-all_fed all ops (output w path ∷ rest) h = all_fed all ops rest h.1
-all_fed all ops (resource w ∷ rest) h = all_fed all ops rest h.1
-all_fed all ops (process w inside vars ports ∷ rest) h =
-    each_append (IsFed all) ports (flat_map ports_of rest) (each_map (IsGoodPort all ops vars) (IsFed all) (λ p g. (g.width, g.few)) ports h.0.3) (all_fed all ops rest h.1)
+all_fed all ops (input i ∷ rest) h = all_fed all ops rest h.1
+all_fed all ops (output o ∷ rest) h = all_fed all ops rest h.1
+all_fed all ops (resource r ∷ rest) h = all_fed all ops rest h.1
+all_fed all ops (process q ∷ rest) h =
+    each_append (IsFed all) q.ports (flat_map ports_of rest) (each_map (IsGoodPort all ops q.vars) (IsFed all) (λ p g. (g.width, g.few)) q.ports h.0.3) (all_fed all ops rest h.1)
 
 module _ (all : List ItemTree) (ops : List OpHead) (fed : Each (IsFed all) (all_ports all)) (few : length (all_ports all) ≤ 64) where
   -- what a path leads to, in the graph

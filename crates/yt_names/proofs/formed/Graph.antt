@@ -42,10 +42,10 @@ both P Q R f (x ∷ xs) a b = (f x a.0 b.0, both P Q R f xs a.1 b.1)
 -- the names of resources may name something
 group_names : (items : List ItemTree) → Each IsWritableItem items → Each (λ name. IsTrue (is_name name)) (flat_map resources_of items)
 group_names [] h = tt
-group_names (input w width period ∷ rest) h = group_names rest h.1
-group_names (output w path ∷ rest) h = group_names rest h.1
-group_names (resource w ∷ rest) h = (h.0, group_names rest h.1)
-group_names (process w inside vars ports ∷ rest) h = group_names rest h.1
+group_names (input i ∷ rest) h = group_names rest h.1
+group_names (output o ∷ rest) h = group_names rest h.1
+group_names (resource r ∷ rest) h = (h.0, group_names rest h.1)
+group_names (process p ∷ rest) h = group_names rest h.1
 
 own_name : (w : Word) (inside : Option Word) (vars : List VarDecl) → IsName w → Each (λ name. IsTrue (is_name name)) (own_resource w inside vars)
 own_name w (Some r) vars h = tt
@@ -54,19 +54,19 @@ own_name w None (v ∷ vs) h = (h, tt)
 
 own_names : (items : List ItemTree) → Each IsWritableItem items → Each (λ name. IsTrue (is_name name)) (flat_map own_resources_of items)
 own_names [] h = tt
-own_names (input w width period ∷ rest) h = own_names rest h.1
-own_names (output w path ∷ rest) h = own_names rest h.1
-own_names (resource w ∷ rest) h = own_names rest h.1
-own_names (process w inside vars ports ∷ rest) h = each_append _ (own_resource w inside vars) (flat_map own_resources_of rest) (own_name w inside vars h.0.0) (own_names rest h.1)
+own_names (input i ∷ rest) h = own_names rest h.1
+own_names (output o ∷ rest) h = own_names rest h.1
+own_names (resource r ∷ rest) h = own_names rest h.1
+own_names (process p ∷ rest) h = each_append _ (own_resource p.name p.inside p.vars) (flat_map own_resources_of rest) (own_name p.name p.inside p.vars h.0.0) (own_names rest h.1)
 
 -- inputs
 inputs_fine : (all : List ItemTree) (ops : List OpHead) (items : List ItemTree) → Each IsWritableItem items → Each (IsGoodItem all ops) items → Each IsFineInput (flat_map inputs_of items)
 inputs_fine all ops [] h g = tt
-inputs_fine all ops (input w width period ∷ rest) h g =
-    ((h.0.0, (kept_within 0 8 (size_of width.value) (omega arith) g.0.0).1, g.0.1), inputs_fine all ops rest h.1 g.1)
-inputs_fine all ops (output w path ∷ rest) h g = inputs_fine all ops rest h.1 g.1
-inputs_fine all ops (resource w ∷ rest) h g = inputs_fine all ops rest h.1 g.1
-inputs_fine all ops (process w inside vars ports ∷ rest) h g = inputs_fine all ops rest h.1 g.1
+inputs_fine all ops (input i ∷ rest) h g =
+    ((h.0.0, (kept_within 0 8 (size_of i.width.value) (omega arith) g.0.0).1, g.0.1), inputs_fine all ops rest h.1 g.1)
+inputs_fine all ops (output o ∷ rest) h g = inputs_fine all ops rest h.1 g.1
+inputs_fine all ops (resource r ∷ rest) h g = inputs_fine all ops rest h.1 g.1
+inputs_fine all ops (process p ∷ rest) h g = inputs_fine all ops rest h.1 g.1
 
 -- variables
 vars_name : (owner : Word) → IsName owner → (vs : List VarDecl) → Each (λ v. IsName v.name) vs → Each (λ (v : graph.Var.Var). IsTrue (is_name v.process) × IsTrue (is_name v.name)) (map (var_of owner.text) vs)
@@ -75,24 +75,24 @@ vars_name owner h (v ∷ vs) e = ((h, e.0), vars_name owner h vs e.1)
 
 vars_names : (items : List ItemTree) → Each IsWritableItem items → Each (λ (v : graph.Var.Var). IsTrue (is_name v.process) × IsTrue (is_name v.name)) (flat_map vars_of items)
 vars_names [] h = tt
-vars_names (input w width period ∷ rest) h = vars_names rest h.1
-vars_names (output w path ∷ rest) h = vars_names rest h.1
-vars_names (resource w ∷ rest) h = vars_names rest h.1
-vars_names (process w inside vars ports ∷ rest) h =
-    each_append _ (map (var_of w.text) vars) (flat_map vars_of rest) (vars_name w h.0.0 vars (all_each (λ v. IsName v.name) vars h.0.2)) (vars_names rest h.1)
+vars_names (input i ∷ rest) h = vars_names rest h.1
+vars_names (output o ∷ rest) h = vars_names rest h.1
+vars_names (resource r ∷ rest) h = vars_names rest h.1
+vars_names (process p ∷ rest) h =
+    each_append _ (map (var_of p.name.text) p.vars) (flat_map vars_of rest) (vars_name p.name h.0.0 p.vars (all_each (λ v. IsName v.name) p.vars h.0.2)) (vars_names rest h.1)
 
 -- names of one process that differ, by what has no fault
 ports_own : (all : List ItemTree) (ops : List OpHead) (i : ItemTree) → IsGoodItem all ops i → AreOwnDifferent ports_sel i
-ports_own all ops (input w width period) h = tt
-ports_own all ops (output w path) h = tt
-ports_own all ops (resource w) h = tt
-ports_own all ops (process w inside vars ports) h = h.2
+ports_own all ops (input i) h = tt
+ports_own all ops (output o) h = tt
+ports_own all ops (resource r) h = tt
+ports_own all ops (process p) h = h.2
 
 vars_own : (all : List ItemTree) (ops : List OpHead) (i : ItemTree) → IsGoodItem all ops i → AreOwnDifferent vars_sel i
-vars_own all ops (input w width period) h = tt
-vars_own all ops (output w path) h = tt
-vars_own all ops (resource w) h = tt
-vars_own all ops (process w inside vars ports) h = h.1
+vars_own all ops (input i) h = tt
+vars_own all ops (output o) h = tt
+vars_own all ops (resource r) h = tt
+vars_own all ops (process p) h = h.1
 
 -- the outs' names are those that are written
 out_names_are : (outs : List OutDecl) → map (λ o. o.name) (map out_head outs) ≡ out_names outs
@@ -147,10 +147,10 @@ module _ (all : List ItemTree) (ops : List OpHead) (none : name_faults all ops �
 
   outputs_fine : (items : List ItemTree) → Each IsWritableItem items → Each (IsGoodItem all ops) items → Each (IsFineOutput (resolved all ops)) (flat_map (outputs_of all) items)
   outputs_fine [] h g = tt
-  outputs_fine (input w width period ∷ rest) h g = outputs_fine rest h.1 g.1
-  outputs_fine (output w path ∷ rest) h g = (output_fine w path h.0.0 (look_up all path) refl g.0, outputs_fine rest h.1 g.1)
-  outputs_fine (resource w ∷ rest) h g = outputs_fine rest h.1 g.1
-  outputs_fine (process w inside vars ports ∷ rest) h g = outputs_fine rest h.1 g.1
+  outputs_fine (input i ∷ rest) h g = outputs_fine rest h.1 g.1
+  outputs_fine (output o ∷ rest) h g = (output_fine o.name o.path h.0.0 (look_up all o.path) refl g.0, outputs_fine rest h.1 g.1)
+  outputs_fine (resource r ∷ rest) h g = outputs_fine rest h.1 g.1
+  outputs_fine (process p ∷ rest) h g = outputs_fine rest h.1 g.1
 
   port_placed : (w : Word) (inside : Option Word) (vars : List VarDecl) (first : ℕ) → IsName w → ((vars ≡ [] → ⊥) → list_any (bytes_eq (resource_name w inside)) (resolved_groups all) ≡ true)
       → (p : PortDeclTree) → IsWritablePort p → IsGoodPort all ops vars p → IsEnded all p.source → IsPlaced (resolved all ops) (resolved_port all w.text (resource_name w inside) ops vars first p)
@@ -177,13 +177,13 @@ module _ (all : List ItemTree) (ops : List OpHead) (none : name_faults all ops �
   all_placed : (first : ℕ) (items : List ItemTree) → Each IsWritableItem items → Each (IsGoodItem all ops) items → Each (IsKeyed (resolved_groups all)) items
       → Each (λ p. IsEnded all p.source) (flat_map ports_of items) → Each (IsPlaced (resolved all ops)) (resolved_ports all ops first items)
   all_placed first [] h g k e = tt
-  all_placed first (input w width period ∷ rest) h g k e = all_placed (first + 0) rest h.1 g.1 k.1 e
-  all_placed first (output w path ∷ rest) h g k e = all_placed (first + 0) rest h.1 g.1 k.1 e
-  all_placed first (resource w ∷ rest) h g k e = all_placed (first + 0) rest h.1 g.1 k.1 e
-  all_placed first (process w inside vars ports ∷ rest) h g k e =
-      each_append _ (resolved_ports_of all ops first (process w inside vars ports)) (resolved_ports all ops (first + length (vars_of (process w inside vars ports))) rest)
-      (ports_placed w inside vars first h.0.0 k.0 ports (all_each IsWritablePort ports h.0.3) g.0.3 (each_left (λ p. IsEnded all p.source) ports (flat_map ports_of rest) e))
-      (all_placed (first + length (vars_of (process w inside vars ports))) rest h.1 g.1 k.1 (each_right (λ p. IsEnded all p.source) ports (flat_map ports_of rest) e))
+  all_placed first (input i ∷ rest) h g k e = all_placed (first + 0) rest h.1 g.1 k.1 e
+  all_placed first (output o ∷ rest) h g k e = all_placed (first + 0) rest h.1 g.1 k.1 e
+  all_placed first (resource r ∷ rest) h g k e = all_placed (first + 0) rest h.1 g.1 k.1 e
+  all_placed first (process q ∷ rest) h g k e =
+      each_append _ (resolved_ports_of all ops first (process q)) (resolved_ports all ops (first + length (vars_of (process q))) rest)
+      (ports_placed q.name q.inside q.vars first h.0.0 k.0 q.ports (all_each IsWritablePort q.ports h.0.3) g.0.3 (each_left (λ p. IsEnded all p.source) q.ports (flat_map ports_of rest) e))
+      (all_placed (first + length (vars_of (process q))) rest h.1 g.1 k.1 (each_right (λ p. IsEnded all p.source) q.ports (flat_map ports_of rest) e))
 
   -- so each port is fine
   ports_fine : AreFineHeads ops → Each (IsFinePort (resolved all ops)) (resolved_ports all ops 0 all)

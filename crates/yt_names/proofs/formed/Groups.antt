@@ -4,7 +4,7 @@ use Rattle.std.specs.List.{list_any, flat_map}
 use Rattle.yt_graph.specs.declared.ast.Word.{Word}
 use Rattle.yt_graph.specs.declared.ast.VarDecl.{VarDecl}
 use Rattle.yt_graph.specs.declared.operator.OpHead.{OpHead}
-use Rattle.yt_graph.specs.AstPicture.{PortDeclTree, ItemTree, input, output, resource, process}
+use Rattle.yt_graph.specs.AstPicture.{PortDeclTree, ProcessTree, ItemTree, input, output, resource, process}
 use Rattle.yt_graph.specs.Picture.{PortTree, GraphTree}
 use Rattle.yt_graph.specs.WellFormed.{IsWithin, AreDifferent, IsFineGroup, IsUnderOne, block_uses_var}
 use Rattle.yt_name_faults.specs.Faults.{inside_faults}
@@ -17,10 +17,10 @@ use Rattle.yt_names.proofs.formed.Names.{process_name}
 
 -- a process that has variables has a resource that is there
 abbrev pub IsKeyed : List (List ℕ) → ItemTree → Type 0
-IsKeyed groups (input w width period) = Unit {0}
-IsKeyed groups (output w path) = Unit {0}
-IsKeyed groups (resource w) = Unit {0}
-IsKeyed groups (process w inside vars ports) = (vars ≡ [] → ⊥) → list_any (bytes_eq (resource_name w inside)) groups ≡ true
+IsKeyed groups (input i) = Unit {0}
+IsKeyed groups (output o) = Unit {0}
+IsKeyed groups (resource r) = Unit {0}
+IsKeyed groups (process p) = (p.vars ≡ [] → ⊥) → list_any (bytes_eq (resource_name p.name p.inside)) groups ≡ true
 
 -- by the word behind `in`, or by its own name
 keyed : (all : List ItemTree) (w : Word) (inside : Option Word) (vars : List VarDecl) (rest : List (List ℕ)) → inside_faults all inside ≡ []
@@ -34,12 +34,12 @@ keyed all w None (v ∷ vs) rest e own some =
 pub all_keyed : (all : List ItemTree) (ops : List OpHead) (items : List ItemTree) → ((y : List ℕ) → list_any (bytes_eq y) (flat_map own_resources_of items) ≡ true → list_any (bytes_eq y) (flat_map own_resources_of all) ≡ true)
     → Each (IsGoodItem all ops) items → Each (IsKeyed (resolved_groups all)) items
 all_keyed all ops [] own h = tt
-all_keyed all ops (input w width period ∷ rest) own h = (tt, all_keyed all ops rest own h.1)
-all_keyed all ops (output w path ∷ rest) own h = (tt, all_keyed all ops rest own h.1)
-all_keyed all ops (resource w ∷ rest) own h = (tt, all_keyed all ops rest own h.1)
-all_keyed all ops (process w inside vars ports ∷ rest) own h = (
-  keyed all w inside vars (flat_map own_resources_of rest) h.0.0 own,
-  all_keyed all ops rest (λ y e. own y (any_right (bytes_eq y) (own_resource w inside vars) (flat_map own_resources_of rest) e)) h.1,
+all_keyed all ops (input i ∷ rest) own h = (tt, all_keyed all ops rest own h.1)
+all_keyed all ops (output o ∷ rest) own h = (tt, all_keyed all ops rest own h.1)
+all_keyed all ops (resource r ∷ rest) own h = (tt, all_keyed all ops rest own h.1)
+all_keyed all ops (process p ∷ rest) own h = (
+  keyed all p.name p.inside p.vars (flat_map own_resources_of rest) h.0.0 own,
+  all_keyed all ops rest (λ y e. own y (any_right (bytes_eq y) (own_resource p.name p.inside p.vars) (flat_map own_resources_of rest) e)) h.1,
 )
 
 -- a port's resource is there
@@ -50,53 +50,53 @@ group_fine g p key false e there few = e
 -- the resource of the process of a name
 abbrev pub key_by : List ℕ → List ItemTree → List ℕ
 key_by word [] = []
-key_by word (input w width period ∷ rest) = key_by word rest
-key_by word (output w path ∷ rest) = key_by word rest
-key_by word (resource w ∷ rest) = key_by word rest
-key_by word (process w inside vars ports ∷ rest) = cond (bytes_eq word w.text) (resource_name w inside) (key_by word rest)
+key_by word (input i ∷ rest) = key_by word rest
+key_by word (output o ∷ rest) = key_by word rest
+key_by word (resource r ∷ rest) = key_by word rest
+key_by word (process p ∷ rest) = cond (bytes_eq word p.name.text) (resource_name p.name p.inside) (key_by word rest)
 
 -- a process is the first of its name
 abbrev IsKeyBy : List ItemTree → ItemTree → Type 0
-IsKeyBy all (input w width period) = Unit {0}
-IsKeyBy all (output w path) = Unit {0}
-IsKeyBy all (resource w) = Unit {0}
-IsKeyBy all (process w inside vars ports) = key_by w.text all ≡ resource_name w inside
+IsKeyBy all (input i) = Unit {0}
+IsKeyBy all (output o) = Unit {0}
+IsKeyBy all (resource r) = Unit {0}
+IsKeyBy all (process p) = key_by p.name.text all ≡ resource_name p.name p.inside
 
-behind : (w : Word) (inside : Option Word) (vars : List VarDecl) (ports : List PortDeclTree) (rest items : List ItemTree)
-    → Each (λ y. bytes_eq w.text y ≡ false) (flat_map process_name items) → Each (IsKeyBy rest) items → Each (IsKeyBy (process w inside vars ports ∷ rest)) items
-behind w inside vars ports rest [] n h = tt
-behind w inside vars ports rest (input x width period ∷ more) n h = (tt, behind w inside vars ports rest more n h.1)
-behind w inside vars ports rest (output x path ∷ more) n h = (tt, behind w inside vars ports rest more n h.1)
-behind w inside vars ports rest (resource x ∷ more) n h = (tt, behind w inside vars ports rest more n h.1)
-behind w inside vars ports rest (process x i vs ps ∷ more) n h =
-    (ap (λ b. cond b (resource_name w inside) (key_by x.text rest)) (bytes_turned w.text x.text n.0) ∙ h.0, behind w inside vars ports rest more n.1 h.1)
+behind : (q : ProcessTree) (rest items : List ItemTree)
+    → Each (λ y. bytes_eq q.name.text y ≡ false) (flat_map process_name items) → Each (IsKeyBy rest) items → Each (IsKeyBy (process q ∷ rest)) items
+behind q rest [] n h = tt
+behind q rest (input i ∷ more) n h = (tt, behind q rest more n h.1)
+behind q rest (output o ∷ more) n h = (tt, behind q rest more n h.1)
+behind q rest (resource r ∷ more) n h = (tt, behind q rest more n h.1)
+behind q rest (process p ∷ more) n h =
+    (ap (λ b. cond b (resource_name q.name q.inside) (key_by p.name.text rest)) (bytes_turned q.name.text p.name.text n.0) ∙ h.0, behind q rest more n.1 h.1)
 
 key_found : (items : List ItemTree) → AreDifferent (flat_map process_name items) → Each (IsKeyBy items) items
 key_found [] d = tt
-key_found (input w width period ∷ rest) d = (tt, each_map (IsKeyBy rest) (IsKeyBy (input w width period ∷ rest)) (same rest) rest (key_found rest d))
+key_found (input j ∷ rest) d = (tt, each_map (IsKeyBy rest) (IsKeyBy (input j ∷ rest)) (same rest) rest (key_found rest d))
   where
-    same : (all : List ItemTree) (i : ItemTree) → IsKeyBy all i → IsKeyBy (input w width period ∷ all) i
-    same all (input x a b) h = tt
-    same all (output x a) h = tt
-    same all (resource x) h = tt
-    same all (process x a b c) h = h
-key_found (output w path ∷ rest) d = (tt, each_map (IsKeyBy rest) (IsKeyBy (output w path ∷ rest)) (same rest) rest (key_found rest d))
+    same : (all : List ItemTree) (i : ItemTree) → IsKeyBy all i → IsKeyBy (input j ∷ all) i
+    same all (input i) h = tt
+    same all (output o) h = tt
+    same all (resource r) h = tt
+    same all (process p) h = h
+key_found (output x ∷ rest) d = (tt, each_map (IsKeyBy rest) (IsKeyBy (output x ∷ rest)) (same rest) rest (key_found rest d))
   where
-    same : (all : List ItemTree) (i : ItemTree) → IsKeyBy all i → IsKeyBy (output w path ∷ all) i
-    same all (input x a b) h = tt
-    same all (output x a) h = tt
-    same all (resource x) h = tt
-    same all (process x a b c) h = h
-key_found (resource w ∷ rest) d = (tt, each_map (IsKeyBy rest) (IsKeyBy (resource w ∷ rest)) (same rest) rest (key_found rest d))
+    same : (all : List ItemTree) (i : ItemTree) → IsKeyBy all i → IsKeyBy (output x ∷ all) i
+    same all (input i) h = tt
+    same all (output o) h = tt
+    same all (resource r) h = tt
+    same all (process p) h = h
+key_found (resource r ∷ rest) d = (tt, each_map (IsKeyBy rest) (IsKeyBy (resource r ∷ rest)) (same rest) rest (key_found rest d))
   where
-    same : (all : List ItemTree) (i : ItemTree) → IsKeyBy all i → IsKeyBy (resource w ∷ all) i
-    same all (input x a b) h = tt
-    same all (output x a) h = tt
-    same all (resource x) h = tt
-    same all (process x a b c) h = h
-key_found (process w inside vars ports ∷ rest) d = (
-  ap (λ b. cond b (resource_name w inside) (key_by w.text rest)) (same_bytes w.text),
-  behind w inside vars ports rest rest (none_each (bytes_eq w.text) (flat_map process_name rest) d.0) (key_found rest d.1),
+    same : (all : List ItemTree) (i : ItemTree) → IsKeyBy all i → IsKeyBy (resource r ∷ all) i
+    same all (input i) h = tt
+    same all (output o) h = tt
+    same all (resource r) h = tt
+    same all (process p) h = h
+key_found (process p ∷ rest) d = (
+  ap (λ b. cond b (resource_name p.name p.inside) (key_by p.name.text rest)) (same_bytes p.name.text),
+  behind p rest rest (none_each (bytes_eq p.name.text) (flat_map process_name rest) d.0) (key_found rest d.1),
 )
 
 -- a port's resource is that of its process's name
@@ -105,16 +105,16 @@ IsGrouped all groups p = p.group ≡ (if block_uses_var p.body then number_among
 
 grouped : (all : List ItemTree) (ops : List OpHead) (first : ℕ) (items : List ItemTree) → Each (IsKeyBy all) items → Each (IsGrouped all (resolved_groups all)) (resolved_ports all ops first items)
 grouped all ops first [] h = tt
-grouped all ops first (input w width period ∷ rest) h = grouped all ops (first + 0) rest h.1
-grouped all ops first (output w path ∷ rest) h = grouped all ops (first + 0) rest h.1
-grouped all ops first (resource w ∷ rest) h = grouped all ops (first + 0) rest h.1
-grouped all ops first (process w inside vars ports ∷ rest) h =
-    each_append _ (resolved_ports_of all ops first (process w inside vars ports)) (resolved_ports all ops (first + length (vars_of (process w inside vars ports))) rest)
-    (each_mapped (IsGrouped all (resolved_groups all)) (resolved_port all w.text (resource_name w inside) ops vars first) ports (each_of _ (one) ports))
-    (grouped all ops (first + length (vars_of (process w inside vars ports))) rest h.1)
+grouped all ops first (input i ∷ rest) h = grouped all ops (first + 0) rest h.1
+grouped all ops first (output o ∷ rest) h = grouped all ops (first + 0) rest h.1
+grouped all ops first (resource r ∷ rest) h = grouped all ops (first + 0) rest h.1
+grouped all ops first (process q ∷ rest) h =
+    each_append _ (resolved_ports_of all ops first (process q)) (resolved_ports all ops (first + length (vars_of (process q))) rest)
+    (each_mapped (IsGrouped all (resolved_groups all)) (resolved_port all q.name.text (resource_name q.name q.inside) ops q.vars first) q.ports (each_of _ (one) q.ports))
+    (grouped all ops (first + length (vars_of (process q))) rest h.1)
   where
-    one : (p : PortDeclTree) → IsGrouped all (resolved_groups all) (resolved_port all w.text (resource_name w inside) ops vars first p)
-    one p = ap (λ k. if block_uses_var (resolved_port all w.text (resource_name w inside) ops vars first p).body then number_among k (resolved_groups all) else 0) (sym h.0)
+    one : (p : PortDeclTree) → IsGrouped all (resolved_groups all) (resolved_port all q.name.text (resource_name q.name q.inside) ops q.vars first p)
+    one p = ap (λ k. if block_uses_var (resolved_port all q.name.text (resource_name q.name q.inside) ops q.vars first p).body then number_among k (resolved_groups all) else 0) (sym h.0)
 
 under_one : (all : List ItemTree) (groups : List (List ℕ)) (p q : PortTree) → IsGrouped all groups p → IsGrouped all groups q → IsUnderOne p q
 under_one all groups p q a b same u v =

@@ -222,3 +222,11 @@ module _ {X : Type 0} (t : X → Bool) where
 
   pub any_second : (xs ys : List X) → list_any t xs ≡ false → list_any t (xs ++ ys) ≡ true → list_any t ys ≡ true
   any_second xs ys a e = sym (ap (λ b. b || list_any t ys) a) ∙ sym (list_any-append t xs ys) ∙ e
+
+-- each of some names is among them
+pub each_there : (names : List (List ℕ)) → Each (λ y. list_any (bytes_eq y) names ≡ true) names
+each_there [] = tt
+each_there (x ∷ xs) = (
+  ap (λ b. b || list_any (bytes_eq x) xs) (same_bytes x),
+  each_map (λ y. list_any (bytes_eq y) xs ≡ true) (λ y. list_any (bytes_eq y) (x ∷ xs) ≡ true) (λ y h. any_right (bytes_eq y) (x ∷ []) xs h) xs (each_there xs),
+)

@@ -19,22 +19,22 @@ use Rattle.yt_names.proofs.formed.Lists.{Each, each_append, each_right, each_map
 
 -- the names of inputs, of outputs, and of processes by their words
 abbrev pub in_name : ItemTree → List (List ℕ)
-in_name (input w width period) = w.text ∷ []
-in_name (output w path) = []
-in_name (resource w) = []
-in_name (process w inside vars ports) = []
+in_name (input i) = i.name.text ∷ []
+in_name (output o) = []
+in_name (resource r) = []
+in_name (process p) = []
 
 abbrev pub out_name : ItemTree → List (List ℕ)
-out_name (input w width period) = []
-out_name (output w path) = w.text ∷ []
-out_name (resource w) = []
-out_name (process w inside vars ports) = []
+out_name (input i) = []
+out_name (output o) = o.name.text ∷ []
+out_name (resource r) = []
+out_name (process p) = []
 
 abbrev pub by_process : (Word → Option Word → List VarDecl → List (List ℕ)) → ItemTree → List (List ℕ)
-by_process d (input w width period) = []
-by_process d (output w path) = []
-by_process d (resource w) = []
-by_process d (process w inside vars ports) = d w inside vars
+by_process d (input i) = []
+by_process d (output o) = []
+by_process d (resource r) = []
+by_process d (process p) = d p.name p.inside p.vars
 
 abbrev pub its_name : Word → Option Word → List VarDecl → List (List ℕ)
 its_name w inside vars = w.text ∷ []
@@ -60,30 +60,30 @@ none_of K part t (i ∷ rest) e =
 
 -- such parts
 in_part : IsPart in_name
-in_part (input w width period) = inr refl
-in_part (output w path) = inl refl
-in_part (resource w) = inl refl
-in_part (process w inside vars ports) = inl refl
+in_part (input i) = inr refl
+in_part (output o) = inl refl
+in_part (resource r) = inl refl
+in_part (process p) = inl refl
 
 out_part : IsPart out_name
-out_part (input w width period) = inl refl
-out_part (output w path) = inr refl
-out_part (resource w) = inl refl
-out_part (process w inside vars ports) = inl refl
+out_part (input i) = inl refl
+out_part (output o) = inr refl
+out_part (resource r) = inl refl
+out_part (process p) = inl refl
 
 resource_part : IsPart resources_of
-resource_part (input w width period) = inl refl
-resource_part (output w path) = inl refl
-resource_part (resource w) = inr refl
-resource_part (process w inside vars ports) = inl refl
+resource_part (input i) = inl refl
+resource_part (output o) = inl refl
+resource_part (resource r) = inr refl
+resource_part (process p) = inl refl
 
 -- inputs, outputs, resources and what processes add have names that differ
 module _ (d : Word → Option Word → List VarDecl → List (List ℕ)) (one : (w : Word) (inside : Option Word) (vars : List VarDecl) → (d w inside vars ≡ []) ⊎ (d w inside vars ≡ w.text ∷ [])) where
   process_part : IsPart (by_process d)
-  process_part (input w width period) = inl refl
-  process_part (output w path) = inl refl
-  process_part (resource w) = inl refl
-  process_part (process w inside vars ports) = one w inside vars
+  process_part (input i) = inl refl
+  process_part (output o) = inl refl
+  process_part (resource r) = inl refl
+  process_part (process p) = one p.name p.inside p.vars
 
   abbrev kinds : List ItemTree → List (List ℕ)
   kinds items = (flat_map in_name items ++ flat_map out_name items) ++ (flat_map resources_of items ++ flat_map (by_process d) items)
@@ -104,27 +104,27 @@ module _ (d : Word → Option Word → List VarDecl → List (List ℕ)) (one : 
 
   pub kinds_differ : (items : List ItemTree) → AreDifferent (item_names items) → AreDifferent (kinds items)
   kinds_differ [] h = tt
-  kinds_differ (input w width period ∷ rest) h = (absent (bytes_eq w.text) rest h.0, kinds_differ rest h.1)
-  kinds_differ (output w path ∷ rest) h =
-      second_more (flat_map in_name rest) (flat_map out_name rest) (flat_map resources_of rest ++ flat_map (by_process d) rest) w.text (kinds_differ rest h.1) (absent (bytes_eq w.text) rest h.0)
-  kinds_differ (resource w ∷ rest) h =
-      one_more (flat_map in_name rest ++ flat_map out_name rest) (flat_map resources_of rest ++ flat_map (by_process d) rest) w.text (kinds_differ rest h.1) (absent (bytes_eq w.text) rest h.0)
-  kinds_differ (process w inside vars ports ∷ rest) h = by (d w inside vars) (one w inside vars) (kinds_differ rest h.1) (absent (bytes_eq w.text) rest h.0)
+  kinds_differ (input i ∷ rest) h = (absent (bytes_eq i.name.text) rest h.0, kinds_differ rest h.1)
+  kinds_differ (output o ∷ rest) h =
+      second_more (flat_map in_name rest) (flat_map out_name rest) (flat_map resources_of rest ++ flat_map (by_process d) rest) o.name.text (kinds_differ rest h.1) (absent (bytes_eq o.name.text) rest h.0)
+  kinds_differ (resource r ∷ rest) h =
+      one_more (flat_map in_name rest ++ flat_map out_name rest) (flat_map resources_of rest ++ flat_map (by_process d) rest) r.name.text (kinds_differ rest h.1) (absent (bytes_eq r.name.text) rest h.0)
+  kinds_differ (process p ∷ rest) h = by (d p.name p.inside p.vars) (one p.name p.inside p.vars) (kinds_differ rest h.1) (absent (bytes_eq p.name.text) rest h.0)
     where
-      by : (xs : List (List ℕ)) → (xs ≡ []) ⊎ (xs ≡ w.text ∷ []) → AreDifferent (kinds rest) → list_any (bytes_eq w.text) (kinds rest) ≡ false
+      by : (xs : List (List ℕ)) → (xs ≡ []) ⊎ (xs ≡ p.name.text ∷ []) → AreDifferent (kinds rest) → list_any (bytes_eq p.name.text) (kinds rest) ≡ false
           → AreDifferent ((flat_map in_name rest ++ flat_map out_name rest) ++ (flat_map resources_of rest ++ (xs ++ flat_map (by_process d) rest)))
       by xs (inl e) k n = subst (λ l. AreDifferent ((flat_map in_name rest ++ flat_map out_name rest) ++ (flat_map resources_of rest ++ (l ++ flat_map (by_process d) rest)))) (sym e) k
       by xs (inr e) k n =
           subst (λ l. AreDifferent ((flat_map in_name rest ++ flat_map out_name rest) ++ (flat_map resources_of rest ++ (l ++ flat_map (by_process d) rest)))) (sym e)
-          (last_more (flat_map in_name rest ++ flat_map out_name rest) (flat_map resources_of rest) (flat_map (by_process d) rest) w.text k n)
+          (last_more (flat_map in_name rest ++ flat_map out_name rest) (flat_map resources_of rest) (flat_map (by_process d) rest) p.name.text k n)
 
 -- the names of the graph's inputs and outputs are these
 pub input_names_are : (items : List ItemTree) → map (λ i. i.name) (flat_map inputs_of items) ≡ flat_map in_name items
 input_names_are [] = refl
-input_names_are (input w width period ∷ rest) = ap (λ l. w.text ∷ l) (input_names_are rest)
-input_names_are (output w path ∷ rest) = input_names_are rest
-input_names_are (resource w ∷ rest) = input_names_are rest
-input_names_are (process w inside vars ports ∷ rest) = input_names_are rest
+input_names_are (input i ∷ rest) = ap (λ l. i.name.text ∷ l) (input_names_are rest)
+input_names_are (output o ∷ rest) = input_names_are rest
+input_names_are (resource r ∷ rest) = input_names_are rest
+input_names_are (process p ∷ rest) = input_names_are rest
 
 -- an output keeps its name
 output_name_is : (w : List ℕ) (r : Result Target NameFault) → (output_to w r).name ≡ w
@@ -133,11 +133,11 @@ output_name_is w (Err fault) = refl
 
 pub output_names_are : (all items : List ItemTree) → map (λ o. o.name) (flat_map (outputs_of all) items) ≡ flat_map out_name items
 output_names_are all [] = refl
-output_names_are all (input w width period ∷ rest) = output_names_are all rest
-output_names_are all (output w path ∷ rest) =
-    ap (λ n. n ∷ map (λ o. o.name) (flat_map (outputs_of all) rest)) (output_name_is w.text (look_up all path)) ∙ ap (λ l. w.text ∷ l) (output_names_are all rest)
-output_names_are all (resource w ∷ rest) = output_names_are all rest
-output_names_are all (process w inside vars ports ∷ rest) = output_names_are all rest
+output_names_are all (input i ∷ rest) = output_names_are all rest
+output_names_are all (output a_output ∷ rest) =
+    ap (λ n. n ∷ map (λ o. o.name) (flat_map (outputs_of all) rest)) (output_name_is a_output.name.text (look_up all a_output.path)) ∙ ap (λ l. a_output.name.text ∷ l) (output_names_are all rest)
+output_names_are all (resource r ∷ rest) = output_names_are all rest
+output_names_are all (process p ∷ rest) = output_names_are all rest
 
 -- the processes that are resources of their own
 own_one : (w : Word) (inside : Option Word) (vars : List VarDecl) → (own_resource w inside vars ≡ []) ⊎ (own_resource w inside vars ≡ w.text ∷ [])
@@ -147,10 +147,10 @@ own_one w None (v ∷ vs) = inr refl
 
 own_same : (items : List ItemTree) → flat_map (by_process own_resource) items ≡ flat_map own_resources_of items
 own_same [] = refl
-own_same (input w width period ∷ rest) = own_same rest
-own_same (output w path ∷ rest) = own_same rest
-own_same (resource w ∷ rest) = own_same rest
-own_same (process w inside vars ports ∷ rest) = ap (λ l. own_resource w inside vars ++ l) (own_same rest)
+own_same (input i ∷ rest) = own_same rest
+own_same (output o ∷ rest) = own_same rest
+own_same (resource r ∷ rest) = own_same rest
+own_same (process p ∷ rest) = ap (λ l. own_resource p.name p.inside p.vars ++ l) (own_same rest)
 
 -- the names of all inputs, outputs and resources differ
 pub all_differ : (all items : List ItemTree) → AreDifferent (item_names items)
@@ -187,53 +187,53 @@ processes_apart all items h =
 -- what holds of each process's name holds of each port's process and of each variable's
 pub of_ports : (Q : List ℕ → Type 0) (all : List ItemTree) (ops : List OpHead) (first : ℕ) (items : List ItemTree) → Each Q (flat_map process_name items) → Each (λ p. Q p.process) (resolved_ports all ops first items)
 of_ports Q all ops first [] h = tt
-of_ports Q all ops first (input w width period ∷ rest) h = of_ports Q all ops (first + 0) rest h
-of_ports Q all ops first (output w path ∷ rest) h = of_ports Q all ops (first + 0) rest h
-of_ports Q all ops first (resource w ∷ rest) h = of_ports Q all ops (first + 0) rest h
-of_ports Q all ops first (process w inside vars ports ∷ rest) h =
-    each_append _ (resolved_ports_of all ops first (process w inside vars ports)) (resolved_ports all ops (first + length (vars_of (process w inside vars ports))) rest)
-    (each_mapped (λ p. Q p.process) (resolved_port all w.text (resource_name w inside) ops vars first) ports (each_of _ (λ p. h.0) ports))
-    (of_ports Q all ops (first + length (vars_of (process w inside vars ports))) rest h.1)
+of_ports Q all ops first (input i ∷ rest) h = of_ports Q all ops (first + 0) rest h
+of_ports Q all ops first (output o ∷ rest) h = of_ports Q all ops (first + 0) rest h
+of_ports Q all ops first (resource r ∷ rest) h = of_ports Q all ops (first + 0) rest h
+of_ports Q all ops first (process q ∷ rest) h =
+    each_append _ (resolved_ports_of all ops first (process q)) (resolved_ports all ops (first + length (vars_of (process q))) rest)
+    (each_mapped (λ p. Q p.process) (resolved_port all q.name.text (resource_name q.name q.inside) ops q.vars first) q.ports (each_of _ (λ p. h.0) q.ports))
+    (of_ports Q all ops (first + length (vars_of (process q))) rest h.1)
 
 pub of_vars : (Q : List ℕ → Type 0) (items : List ItemTree) → Each Q (flat_map process_name items) → Each (λ v. Q v.process) (flat_map vars_of items)
 of_vars Q [] h = tt
-of_vars Q (input w width period ∷ rest) h = of_vars Q rest h
-of_vars Q (output w path ∷ rest) h = of_vars Q rest h
-of_vars Q (resource w ∷ rest) h = of_vars Q rest h
-of_vars Q (process w inside vars ports ∷ rest) h =
-    each_append _ (map (var_of w.text) vars) (flat_map vars_of rest) (each_mapped (λ v. Q v.process) (var_of w.text) vars (each_of _ (λ v. h.0) vars)) (of_vars Q rest h.1)
+of_vars Q (input i ∷ rest) h = of_vars Q rest h
+of_vars Q (output o ∷ rest) h = of_vars Q rest h
+of_vars Q (resource r ∷ rest) h = of_vars Q rest h
+of_vars Q (process p ∷ rest) h =
+    each_append _ (map (var_of p.name.text) p.vars) (flat_map vars_of rest) (each_mapped (λ v. Q v.process) (var_of p.name.text) p.vars (each_of _ (λ v. h.0) p.vars)) (of_vars Q rest h.1)
 
 -- names with their processes
 module _ (sel : List VarDecl → List PortDeclTree → List (List ℕ)) where
   abbrev pub pairs_of : ItemTree → List (List ℕ × List ℕ)
-  pairs_of (input w width period) = []
-  pairs_of (output w path) = []
-  pairs_of (resource w) = []
-  pairs_of (process w inside vars ports) = map (λ n. (w.text, n)) (sel vars ports)
+  pairs_of (input i) = []
+  pairs_of (output o) = []
+  pairs_of (resource r) = []
+  pairs_of (process p) = map (λ n. (p.name.text, n)) (sel p.vars p.ports)
 
   abbrev pub AreOwnDifferent : ItemTree → Type 0
-  AreOwnDifferent (input w width period) = Unit {0}
-  AreOwnDifferent (output w path) = Unit {0}
-  AreOwnDifferent (resource w) = Unit {0}
-  AreOwnDifferent (process w inside vars ports) = AreDifferent (sel vars ports)
+  AreOwnDifferent (input i) = Unit {0}
+  AreOwnDifferent (output o) = Unit {0}
+  AreOwnDifferent (resource r) = Unit {0}
+  AreOwnDifferent (process p) = AreDifferent (sel p.vars p.ports)
 
   of_pairs : (Q : List ℕ → Type 0) (items : List ItemTree) → Each Q (flat_map process_name items) → Each (λ (q : List ℕ × List ℕ). Q q.0) (flat_map pairs_of items)
   of_pairs Q [] h = tt
-  of_pairs Q (input w width period ∷ rest) h = of_pairs Q rest h
-  of_pairs Q (output w path ∷ rest) h = of_pairs Q rest h
-  of_pairs Q (resource w ∷ rest) h = of_pairs Q rest h
-  of_pairs Q (process w inside vars ports ∷ rest) h =
-      each_append _ (map (λ n. (w.text, n)) (sel vars ports)) (flat_map pairs_of rest)
-      (each_mapped (λ (q : List ℕ × List ℕ). Q q.0) (λ n. (w.text, n)) (sel vars ports) (each_of _ (λ n. h.0) (sel vars ports))) (of_pairs Q rest h.1)
+  of_pairs Q (input i ∷ rest) h = of_pairs Q rest h
+  of_pairs Q (output o ∷ rest) h = of_pairs Q rest h
+  of_pairs Q (resource r ∷ rest) h = of_pairs Q rest h
+  of_pairs Q (process p ∷ rest) h =
+      each_append _ (map (λ n. (p.name.text, n)) (sel p.vars p.ports)) (flat_map pairs_of rest)
+      (each_mapped (λ (q : List ℕ × List ℕ). Q q.0) (λ n. (p.name.text, n)) (sel p.vars p.ports) (each_of _ (λ n. h.0) (sel p.vars p.ports))) (of_pairs Q rest h.1)
 
   pub pairs_differ : (items : List ItemTree) → AreDifferent (flat_map process_name items) → Each AreOwnDifferent items → AreDifferentWithin (flat_map pairs_of items)
   pairs_differ [] d h = tt
-  pairs_differ (input w width period ∷ rest) d h = pairs_differ rest d h.1
-  pairs_differ (output w path ∷ rest) d h = pairs_differ rest d h.1
-  pairs_differ (resource w ∷ rest) d h = pairs_differ rest d h.1
-  pairs_differ (process w inside vars ports ∷ rest) d h =
-      owner_joins w.text (sel vars ports) (flat_map pairs_of rest) h.0
-      (of_pairs (λ y. bytes_eq w.text y ≡ false) rest (none_each (bytes_eq w.text) (flat_map process_name rest) d.0))
+  pairs_differ (input i ∷ rest) d h = pairs_differ rest d h.1
+  pairs_differ (output o ∷ rest) d h = pairs_differ rest d h.1
+  pairs_differ (resource r ∷ rest) d h = pairs_differ rest d h.1
+  pairs_differ (process p ∷ rest) d h =
+      owner_joins p.name.text (sel p.vars p.ports) (flat_map pairs_of rest) h.0
+      (of_pairs (λ y. bytes_eq p.name.text y ≡ false) rest (none_each (bytes_eq p.name.text) (flat_map process_name rest) d.0))
       (pairs_differ rest d.1 h.1)
 
 -- the names of ports and of variables
@@ -256,16 +256,16 @@ vars_join w (v ∷ vs) after end e = ap (λ l. (w.text, v.name.text) ∷ l) (var
 
 pub port_pairs_are : (all : List ItemTree) (ops : List OpHead) (first : ℕ) (items : List ItemTree) → map (λ p. (p.process, p.name)) (resolved_ports all ops first items) ≡ flat_map (pairs_of ports_sel) items
 port_pairs_are all ops first [] = refl
-port_pairs_are all ops first (input w width period ∷ rest) = port_pairs_are all ops (first + 0) rest
-port_pairs_are all ops first (output w path ∷ rest) = port_pairs_are all ops (first + 0) rest
-port_pairs_are all ops first (resource w ∷ rest) = port_pairs_are all ops (first + 0) rest
-port_pairs_are all ops first (process w inside vars ports ∷ rest) =
-    ports_join all ops first w (resource_name w inside) vars ports (resolved_ports all ops (first + length (vars_of (process w inside vars ports))) rest) (flat_map (pairs_of ports_sel) rest)
-    (port_pairs_are all ops (first + length (vars_of (process w inside vars ports))) rest)
+port_pairs_are all ops first (input i ∷ rest) = port_pairs_are all ops (first + 0) rest
+port_pairs_are all ops first (output o ∷ rest) = port_pairs_are all ops (first + 0) rest
+port_pairs_are all ops first (resource r ∷ rest) = port_pairs_are all ops (first + 0) rest
+port_pairs_are all ops first (process p ∷ rest) =
+    ports_join all ops first p.name (resource_name p.name p.inside) p.vars p.ports (resolved_ports all ops (first + length (vars_of (process p))) rest) (flat_map (pairs_of ports_sel) rest)
+    (port_pairs_are all ops (first + length (vars_of (process p))) rest)
 
 pub var_pairs_are : (items : List ItemTree) → map (λ v. (v.process, v.name)) (flat_map vars_of items) ≡ flat_map (pairs_of vars_sel) items
 var_pairs_are [] = refl
-var_pairs_are (input w width period ∷ rest) = var_pairs_are rest
-var_pairs_are (output w path ∷ rest) = var_pairs_are rest
-var_pairs_are (resource w ∷ rest) = var_pairs_are rest
-var_pairs_are (process w inside vars ports ∷ rest) = vars_join w vars (flat_map vars_of rest) (flat_map (pairs_of vars_sel) rest) (var_pairs_are rest)
+var_pairs_are (input i ∷ rest) = var_pairs_are rest
+var_pairs_are (output o ∷ rest) = var_pairs_are rest
+var_pairs_are (resource r ∷ rest) = var_pairs_are rest
+var_pairs_are (process p ∷ rest) = vars_join p.name p.vars (flat_map vars_of rest) (flat_map (pairs_of vars_sel) rest) (var_pairs_are rest)

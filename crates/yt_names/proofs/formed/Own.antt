@@ -30,10 +30,10 @@ its_vars y w None (v ∷ vs) names others more e = by (bytes_eq y w.text) e
 
 vars_there : (y : List ℕ) (items : List ItemTree) → list_any (bytes_eq y) (flat_map own_resources_of items) ≡ true → list_any (λ (v : graph.Var.Var). bytes_eq y v.process) (flat_map vars_of items) ≡ true
 vars_there y [] e = absurd (true≢false (sym e))
-vars_there y (input w width period ∷ rest) e = vars_there y rest e
-vars_there y (output w path ∷ rest) e = vars_there y rest e
-vars_there y (resource w ∷ rest) e = vars_there y rest e
-vars_there y (process w inside vars ports ∷ rest) e = its_vars y w inside vars (flat_map own_resources_of rest) (flat_map vars_of rest) (vars_there y rest) e
+vars_there y (input i ∷ rest) e = vars_there y rest e
+vars_there y (output o ∷ rest) e = vars_there y rest e
+vars_there y (resource r ∷ rest) e = vars_there y rest e
+vars_there y (process p ∷ rest) e = its_vars y p.name p.inside p.vars (flat_map own_resources_of rest) (flat_map vars_of rest) (vars_there y rest) e
 
 -- resources of processes are named after them
 none_own : (t : List ℕ → Bool) (w : Word) (inside : Option Word) (vars : List VarDecl) → t w.text ≡ false → list_any t (own_resource w inside vars) ≡ false
@@ -43,12 +43,12 @@ none_own t w None (v ∷ vs) e = neither_holds (t w.text) false e refl
 
 none_owned : (t : List ℕ → Bool) (items : List ItemTree) → list_any t (flat_map process_name items) ≡ false → list_any t (flat_map own_resources_of items) ≡ false
 none_owned t [] e = refl
-none_owned t (input w width period ∷ rest) e = none_owned t rest e
-none_owned t (output w path ∷ rest) e = none_owned t rest e
-none_owned t (resource w ∷ rest) e = none_owned t rest e
-none_owned t (process w inside vars ports ∷ rest) e =
-    let p = both_fail (t w.text) (list_any t (flat_map process_name rest)) e in
-    none_append t (own_resource w inside vars) (flat_map own_resources_of rest) (none_own t w inside vars p.0) (none_owned t rest p.1)
+none_owned t (input i ∷ rest) e = none_owned t rest e
+none_owned t (output o ∷ rest) e = none_owned t rest e
+none_owned t (resource r ∷ rest) e = none_owned t rest e
+none_owned t (process q ∷ rest) e =
+    let p = both_fail (t q.name.text) (list_any t (flat_map process_name rest)) e in
+    none_append t (own_resource q.name q.inside q.vars) (flat_map own_resources_of rest) (none_own t q.name q.inside q.vars p.0) (none_owned t rest p.1)
 
 -- the resource of a process that is one of its own has its name
 its_key : (y : List ℕ) (w : Word) (inside : Option Word) (vars : List VarDecl) (rest : List ItemTree) → list_any (bytes_eq w.text) (flat_map process_name rest) ≡ false
@@ -64,10 +64,10 @@ its_key y w inside vars rest apart more there = by (bytes_eq y w.text) refl insi
 
 own_key : (y : List ℕ) (items : List ItemTree) → AreDifferent (flat_map process_name items) → list_any (bytes_eq y) (flat_map own_resources_of items) ≡ true → key_by y items ≡ y
 own_key y [] d e = absurd (true≢false (sym e))
-own_key y (input w width period ∷ rest) d e = own_key y rest d e
-own_key y (output w path ∷ rest) d e = own_key y rest d e
-own_key y (resource w ∷ rest) d e = own_key y rest d e
-own_key y (process w inside vars ports ∷ rest) d e = its_key y w inside vars rest d.0 (own_key y rest d.1) e
+own_key y (input i ∷ rest) d e = own_key y rest d e
+own_key y (output o ∷ rest) d e = own_key y rest d e
+own_key y (resource r ∷ rest) d e = own_key y rest d e
+own_key y (process p ∷ rest) d e = its_key y p.name p.inside p.vars rest d.0 (own_key y rest d.1) e
 
 -- the name that stands at the number of a name
 name_at : (y : List ℕ) (base : ℕ) (names : List (List ℕ)) (k : ℕ) → first_of y base names ≡ Some k → IsSomeAnd (slice_get names (k - base)) (λ name. name ≡ y)

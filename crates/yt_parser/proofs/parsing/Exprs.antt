@@ -9,8 +9,8 @@ use Rattle.yt_parser.specs.declared.cursor.Stop.{Stop}
 use Rattle.yt_parser.specs.declared.cursor.Stop.TheVariants.{Syntax, Memory}
 use Rattle.yt_grammar.specs.Lexemes.{Tok}
 use Rattle.yt_grammar.specs.Grammar.{right_rank}
-use Rattle.yt_grammar.specs.Reading.{Reading, got, stuck, Reader, and_then, made, behind, op_at, chain, turns_at, exprs_of, rank_reader, expr_reader}
-use Rattle.yt_parser.specs.Results.{IsStop}
+use Rattle.yt_grammar.specs.Inside.Reading.{Reading, got, stuck, Reader, and_then, made, behind, op_at, chain, turns_at, exprs_of, rank_reader, expr_reader}
+use Rattle.yt_parser.specs.Inside.Results.{IsStop}
 
 -- an expression of some levels
 pub expr_reader-levels : (levels rank : ℕ) (s : List Tok) → 0 < levels → expr_reader levels rank s ≡ rank_reader (expr_reader (levels - 1)) (levels - 1) rank s

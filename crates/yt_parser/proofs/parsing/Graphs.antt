@@ -5,8 +5,8 @@ use Rattle.yt_graph.specs.AstPicture.{ItemTree}
 use Rattle.yt_parser.specs.declared.cursor.Stop.{Stop}
 use Rattle.yt_parser.specs.declared.cursor.Stop.TheVariants.{Syntax, Memory}
 use Rattle.yt_grammar.specs.Lexemes.{Tok}
-use Rattle.yt_grammar.specs.Reading.{got, stuck, many, at_item, item_reader, graph_reader}
-use Rattle.yt_parser.specs.Results.{IsStop}
+use Rattle.yt_grammar.specs.Inside.Reading.{got, stuck, many, at_item, item_reader, graph_reader}
+use Rattle.yt_parser.specs.Inside.Results.{IsStop}
 
 -- nothing comes behind the parts
 pub graph_reader-end : (s : List Tok) (items : List ItemTree) (rest : List Tok) → many at_item item_reader s ≡ got items rest → (length rest == 0) ≡ true → graph_reader s ≡ got items rest

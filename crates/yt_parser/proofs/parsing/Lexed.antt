@@ -14,7 +14,7 @@ use Rattle.yt_lexer.specs.declared.token.TokenKind.{TokenKind}
 use Rattle.yt_lexer.specs.declared.token.TokenKind.TheVariants.{Word, Key, Number, Symbol}
 use Rattle.yt_lexer.specs.declared.token.LexFault.TheVariants.{BadByte, LongName}
 use Rattle.yt_grammar.specs.Lexemes.{lexeme_of, digits, IsLexeme, AreTokens, toks_of}
-use Rattle.yt_parser.specs.Signs.{IsSpan, AreSpans}
+use Rattle.yt_parser.specs.Inside.Signs.{IsSpan, AreSpans}
 
 -- a token of so many bytes in front of a text lies in it and can be a graph's
 pub record IsFine (text : List ℕ) (kind : TokenKind) (len : ℕ) : Type 0 where

@@ -4,8 +4,8 @@ use Rattle.yt_parser.specs.declared.cursor.Stop.{Stop}
 use Rattle.yt_parser.specs.declared.cursor.Stop.TheVariants.{Syntax, Memory}
 use Rattle.yt_grammar.specs.declared.sign.Mark.TheVariants.{Comma}
 use Rattle.yt_grammar.specs.Lexemes.{Tok}
-use Rattle.yt_grammar.specs.Reading.{Reading, got, stuck, Reader, made, at_mark, behind_mark, many_of, many, one_or_more}
-use Rattle.yt_parser.specs.Results.{IsStop}
+use Rattle.yt_grammar.specs.Inside.Reading.{Reading, got, stuck, Reader, made, at_mark, behind_mark, many_of, many, one_or_more}
+use Rattle.yt_parser.specs.Inside.Results.{IsStop}
 
 -- the whole reading is that of what is left, with the things so far in front
 pub record GoesOn {X : Type 0} (whole : Reading (List X)) (test : List Tok → Bool) (p : Reader X) (xs : List X) (left : List Tok) : Type 0 where

@@ -5,8 +5,8 @@ use Rattle.yt_graph.specs.declared.place.Place.{Place}
 use Rattle.yt_graph.specs.AstPicture.{ItemTree}
 use Rattle.yt_grammar.specs.Lexemes.{Tok, AreTokens}
 use Rattle.yt_grammar.specs.Grammar.{Spells}
-use Rattle.yt_grammar.specs.Reading.{got, stuck, graph_reader}
-use Rattle.yt_parser.specs.Signs.{place_next}
+use Rattle.yt_grammar.specs.Inside.Reading.{got, stuck, graph_reader}
+use Rattle.yt_parser.specs.Inside.Signs.{place_next}
 use Rattle.yt_parser.specs.Parses.{place_before, IsSyntaxFault}
 use Rattle.yt_grammar.proofs.Lemmas.{graph_read, graph_only, graph_stuck}
 

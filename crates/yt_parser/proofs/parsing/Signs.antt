@@ -3,8 +3,8 @@ use Rattle.std.proofs.Common.{◌≡◌, List, [], ◌∷◌, refl}
 use Rattle.yt_grammar.specs.declared.sign.Keyword.{Keyword}
 use Rattle.yt_grammar.specs.declared.sign.Mark.{Mark}
 use Rattle.yt_grammar.specs.Lexemes.{Lexeme, word, key, mark, digits, Tok}
-use Rattle.yt_parser.specs.Signs.{sign_of, lexeme_sign, sign_is_key, sign_is_mark}
-use Rattle.yt_grammar.specs.Reading.{at_key, at_mark}
+use Rattle.yt_parser.specs.Inside.Signs.{sign_of, lexeme_sign, sign_is_key, sign_is_mark}
+use Rattle.yt_grammar.specs.Inside.Reading.{at_key, at_mark}
 
 key_at : (k : Keyword) (l : Lexeme) (t : Tok) (ts : List Tok) → t.says ≡ l → sign_is_key k (lexeme_sign l) ≡ at_key k (t ∷ ts)
 key_at k (word w) t ts e = rw e refl

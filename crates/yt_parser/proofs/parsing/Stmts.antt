@@ -5,8 +5,8 @@ use Rattle.yt_graph.specs.AstPicture.{more_stmts, ast_stmt_tree, ast_block_tree}
 use Rattle.yt_parser.specs.declared.cursor.Stop.{Stop}
 use Rattle.yt_parser.specs.declared.cursor.Stop.TheVariants.{Syntax, Memory}
 use Rattle.yt_grammar.specs.Lexemes.{Tok}
-use Rattle.yt_grammar.specs.Reading.{Reading, made, in_braces, many, at_stmt, stmt_reader, block_of, block_reader}
-use Rattle.yt_parser.specs.Results.{IsStop}
+use Rattle.yt_grammar.specs.Inside.Reading.{Reading, made, in_braces, many, at_stmt, stmt_reader, block_of, block_reader}
+use Rattle.yt_parser.specs.Inside.Results.{IsStop}
 
 -- a block in which some may stand
 pub block_reader-levels : (blocks : ℕ) (s : List Tok) → 0 < blocks → block_reader blocks s ≡ made block_of (in_braces (many (at_stmt (blocks - 1)) (stmt_reader (block_reader (blocks - 1)) (blocks - 1))) s)

@@ -1,12 +1,13 @@
 -- The canonical text computes: a small graph with each form.
-use Rattle.std.proofs.Common.{ℕ, ◌≡◌, List, [], ◌∷◌, Some, None, refl, pos, negsuc}
+use Rattle.std.proofs.Common.{ℕ, ◌≡◌, List, [], ◌∷◌, Option, Some, None, refl, pos, negsuc}
 use Rattle.std.specs.Prelude.{codes}
 use Rattle.std.specs.Fmt.{digits}
 use Rattle.yt_graph.specs.declared.expr.Op2.TheVariants.{Or, Lt, Add}
 use Rattle.yt_graph.specs.declared.ast.Word.{Word}
 use Rattle.yt_graph.specs.declared.ast.Num.{Num}
+use Rattle.yt_graph.specs.declared.ast.VarDecl.{VarDecl}
 use Rattle.yt_graph.specs.declared.ast.Source.TheVariants.{Input, Out}
-use Rattle.yt_graph.specs.AstPicture.{number, name, minus, negation, two_sides, paren, call_of, no_values, more_values, let_local, assign, send_on, when_only, when_else, turns, no_stmts, more_stmts, ItemTree, input, output, resource, process}
+use Rattle.yt_graph.specs.AstPicture.{number, name, minus, negation, two_sides, paren, call_of, no_values, more_values, let_local, assign, send_on, when_only, when_else, turns, no_stmts, more_stmts, PortDeclTree, ItemTree, input, output, resource, process}
 use Rattle.yt_grammar.specs.CanonicalText.{canonical_text}
 use Rattle.yt_grammar.specs.SamePlaces.{start}
 
@@ -16,12 +17,15 @@ w text = record { text = text; place = start }
 abbrev n : ℕ → Num
 n value = record { value = pos value; place = start }
 
+abbrev process_of : Word → Option Word → List VarDecl → List PortDeclTree → ItemTree
+process_of owner inside vars ports = process (record { name = owner; inside = inside; vars = vars; ports = ports })
+
 abbrev graph : List ItemTree
 graph =
-    input (w (codes "in1")) (n 2) (n 100)
-    ∷ output (w (codes "shown")) (record { process = w (codes "P"); port = w (codes "a"); out = w (codes "o") })
-    ∷ resource (w (codes "disk"))
-    ∷ process (w (codes "P")) (Some (w (codes "disk")))
+    input (record { name = w (codes "in1"); width = n 2; period = n 100 })
+    ∷ output (record { name = w (codes "shown"); path = record { process = w (codes "P"); port = w (codes "a"); out = w (codes "o") } })
+    ∷ resource (record { name = w (codes "disk") })
+    ∷ process_of (w (codes "P")) (Some (w (codes "disk")))
     ((record { name = w (codes "s"); start = negsuc 41 }) ∷ (record { name = w (codes "t"); start = pos 0 }) ∷ [])
     ((record {
       name = w (codes "a");
@@ -36,7 +40,7 @@ graph =
     })
     ∷ (record { name = w (codes "b"); source = Out (record { process = w (codes "P"); port = w (codes "a"); out = w (codes "q") }); params = []; outs = []; body = no_stmts })
     ∷ [])
-    ∷ process (w (codes "Q")) None [] []
+    ∷ process_of (w (codes "Q")) None [] []
     ∷ []
 
 graph_text : canonical_text graph ≡ codes "input in1(2) period 100\noutput shown from P.a.o\nresource disk\nprocess P in disk {\n  var s = -42\n  var t = 0\n  port a from in1 (x, y) out o(1) every 1 out q(0) {\n    let z = not x or -y < 10\n    if z {\n      s = (s + 1)\n    } else {\n      if x {\n        send q ()\n      }\n    }\n    repeat x max 3 {\n    }\n    send o (max2(x, 5), 0)\n  }\n  port b from P.a.q () {\n  }\n}\nprocess Q {\n}\n"

@@ -296,29 +296,29 @@ inside_good None ps h free good = good
 inside_good (Some w) ps h free good = space_good _ (say_good (key keys.In) _ tt refl (space_good _ (word_good w.text ps h free good)))
 
 item_good : (i : ItemTree) (ps : List Piece) → is_item i ≡ true → IsGood ps → IsGood (item_layout i ++ ps)
-item_good (input w width period) ps h good =
+item_good (input i) ps h good =
     let a = both _ _ h in
     let b = both _ _ a.1 in
-    say_good (key keys.Input) _ tt refl (space_good _ (word_good w.text _ a.0 refl (say_good (mark LeftParen) _ tt refl (digits_good width.value _ b.0 refl (say_good (mark RightParen) _ tt refl
-    (space_good _ (say_good (key keys.Period) _ tt refl (space_good _ (digits_good period.value (feed ∷ ps) b.1 refl (feed_good ps good))))))))))
-item_good (output w path) ps h good =
+    say_good (key keys.Input) _ tt refl (space_good _ (word_good i.name.text _ a.0 refl (say_good (mark LeftParen) _ tt refl (digits_good i.width.value _ b.0 refl (say_good (mark RightParen) _ tt refl
+    (space_good _ (say_good (key keys.Period) _ tt refl (space_good _ (digits_good i.period.value (feed ∷ ps) b.1 refl (feed_good ps good))))))))))
+item_good (output o) ps h good =
     let a = both _ _ h in
-    say_good (key keys.Output) _ tt refl (space_good _ (word_good w.text _ a.0 refl (space_good _ (say_good (key keys.From) _ tt refl (space_good _ (path_good path (feed ∷ ps) a.1 refl (feed_good ps good)))))))
-item_good (resource w) ps h good = say_good (key keys.Resource) _ tt refl (space_good _ (word_good w.text (feed ∷ ps) h refl (feed_good ps good)))
-item_good (process w inside vars ports) ps h good =
+    say_good (key keys.Output) _ tt refl (space_good _ (word_good o.name.text _ a.0 refl (space_good _ (say_good (key keys.From) _ tt refl (space_good _ (path_good o.path (feed ∷ ps) a.1 refl (feed_good ps good)))))))
+item_good (resource r) ps h good = say_good (key keys.Resource) _ tt refl (space_good _ (word_good r.name.text (feed ∷ ps) h refl (feed_good ps good)))
+item_good (process p) ps h good =
     let a = both _ _ h in
     let b = both _ _ a.1 in
     let c = both _ _ b.1 in
-    let lines = flat_map var_layout vars ++ flat_map port_layout ports in
+    let lines = flat_map var_layout p.vars ++ flat_map port_layout p.ports in
     let end = indent 0 ∷ say (mark RightBrace) ∷ feed ∷ ps in
-    let all = onto (flat_map var_layout vars) (flat_map port_layout ports) end
-    (lines_good var_layout is_var var_good vars (flat_map port_layout ports ++ end) c.0 (lines_good port_layout is_port port_good ports end c.1 (close_good 0 (feed ∷ ps) (feed_good ps good)))) in
+    let all = onto (flat_map var_layout p.vars) (flat_map port_layout p.ports) end
+    (lines_good var_layout is_var var_good p.vars (flat_map port_layout p.ports ++ end) c.0 (lines_good port_layout is_port port_good p.ports end c.1 (close_good 0 (feed ∷ ps) (feed_good ps good)))) in
     let block = braced_good 0 lines (feed ∷ ps) all in
     let behind = space ∷ braced 0 lines ++ (feed ∷ ps) in
-    let front = inside_good inside behind b.0 refl (space_good (braced 0 lines ++ (feed ∷ ps)) block) in
-    say_good (key keys.Process) _ tt refl (space_good _ (word_good w.text (inside_layout inside ++ (space ∷ braced 0 lines) ++ (feed ∷ []) ++ ps) a.0
-    (subst (λ (l : List Piece). is_free l ≡ true) (sym (assoc3 (inside_layout inside) (space ∷ braced 0 lines) (feed ∷ []) ps)) (inside_free inside behind refl))
-    (subst IsGood (sym (assoc3 (inside_layout inside) (space ∷ braced 0 lines) (feed ∷ []) ps)) front)))
+    let front = inside_good p.inside behind b.0 refl (space_good (braced 0 lines ++ (feed ∷ ps)) block) in
+    say_good (key keys.Process) _ tt refl (space_good _ (word_good p.name.text (inside_layout p.inside ++ (space ∷ braced 0 lines) ++ (feed ∷ []) ++ ps) a.0
+    (subst (λ (l : List Piece). is_free l ≡ true) (sym (assoc3 (inside_layout p.inside) (space ∷ braced 0 lines) (feed ∷ []) ps)) (inside_free p.inside behind refl))
+    (subst IsGood (sym (assoc3 (inside_layout p.inside) (space ∷ braced 0 lines) (feed ∷ []) ps)) front)))
 
 pub layout_good : (items : List ItemTree) → is_writable items ≡ true → IsGood (layout_of items)
 layout_good items h = subst IsGood (append-nil (layout_of items)) (lines_good item_layout is_item item_good items [] h none_good)

@@ -34,6 +34,18 @@ out_of a b c = record { name = a; width = b; every = c }
 abbrev port_of : Word → Source → List Word → List OutDecl → AstBlockTree → PortDeclTree
 port_of a b c d e = record { name = a; source = b; params = c; outs = d; body = e }
 
+abbrev input_of : Word → Num → Num → ItemTree
+input_of a b c = input (record { name = a; width = b; period = c })
+
+abbrev output_of : Word → Path → ItemTree
+output_of a b = output (record { name = a; path = b })
+
+abbrev resource_of : Word → ItemTree
+resource_of a = resource (record { name = a })
+
+abbrev process_of : Word → Option Word → List VarDecl → List PortDeclTree → ItemTree
+process_of a b c d = process (record { name = a; inside = b; vars = c; ports = d })
+
 -- equal parts make equal paths, outs, ports and processes
 same_path : (a b c d e f : Word) → word_at_start a ≡ word_at_start b → word_at_start c ≡ word_at_start d → word_at_start e ≡ word_at_start f → path_at_start (record { process = a; port = c; out = e }) ≡ path_at_start (record { process = b; port = d; out = f })
 same_path a b c d e f p q r = ap3 path_of p q r
@@ -44,7 +56,7 @@ same_out a b c d e f p q r = ap3 out_of p q r
 same_port : (a b : Word) (c d : Source) (e f : List Word) (g h : List OutDecl) (i j : AstBlockTree) → a ≡ b → c ≡ d → e ≡ f → g ≡ h → i ≡ j → port_of a c e g i ≡ port_of b d f h j
 same_port a b c d e f g h i j p q r s t = cc
 
-same_process : (a b : Word) (c d : Option Word) (e f : List VarDecl) (g h : List PortDeclTree) → a ≡ b → c ≡ d → e ≡ f → g ≡ h → process a c e g ≡ process b d f h
+same_process : (a b : Word) (c d : Option Word) (e f : List VarDecl) (g h : List PortDeclTree) → a ≡ b → c ≡ d → e ≡ f → g ≡ h → process_of a c e g ≡ process_of b d f h
 same_process a b c d e f g h p q r s = cc
 
 no_tokens : (toks : List Tok) → says_of toks ≡ [] → toks ≡ []
@@ -194,58 +206,58 @@ inside_reads (Some w) toks ps k =
     record { got = Some b.got; takes = then_takes a b.takes; alike = ap Some b.alike }
 
 item_reads : (i : ItemTree) (toks : List Tok) (ps : List Piece) → is_item i ≡ true → says_of toks ≡ lexemes_in (item_layout i ++ ps) → Reads item_form item_at_start i toks (lexemes_in ps)
-item_reads (input w width period) toks ps h k =
+item_reads (input i) toks ps h k =
     let tail = lexemes_in ps in
-    let a = take_says (key keys.Input) toks (word w.text ∷ mark LeftParen ∷ digits width.value ∷ mark RightParen ∷ key keys.Period ∷ digits period.value ∷ tail) k in
-    let b = take_name w a.back (mark LeftParen ∷ digits width.value ∷ mark RightParen ∷ key keys.Period ∷ digits period.value ∷ tail) a.rest in
-    let c = take_says (mark LeftParen) b.takes.back (digits width.value ∷ mark RightParen ∷ key keys.Period ∷ digits period.value ∷ tail) b.takes.rest in
-    let d = take_count width c.back (mark RightParen ∷ key keys.Period ∷ digits period.value ∷ tail) c.rest in
-    let e = take_says (mark RightParen) d.takes.back (key keys.Period ∷ digits period.value ∷ tail) d.takes.rest in
+    let a = take_says (key keys.Input) toks (word i.name.text ∷ mark LeftParen ∷ digits i.width.value ∷ mark RightParen ∷ key keys.Period ∷ digits i.period.value ∷ tail) k in
+    let b = take_name i.name a.back (mark LeftParen ∷ digits i.width.value ∷ mark RightParen ∷ key keys.Period ∷ digits i.period.value ∷ tail) a.rest in
+    let c = take_says (mark LeftParen) b.takes.back (digits i.width.value ∷ mark RightParen ∷ key keys.Period ∷ digits i.period.value ∷ tail) b.takes.rest in
+    let d = take_count i.width c.back (mark RightParen ∷ key keys.Period ∷ digits i.period.value ∷ tail) c.rest in
+    let e = take_says (mark RightParen) d.takes.back (key keys.Period ∷ digits i.period.value ∷ tail) d.takes.rest in
     let f = then_takes c (then_takes d.takes e) in
-    let g = take_says (key keys.Period) f.back (digits period.value ∷ tail) f.rest in
-    let j = take_count period g.back tail g.rest in
+    let g = take_says (key keys.Period) f.back (digits i.period.value ∷ tail) f.rest in
+    let j = take_count i.period g.back tail g.rest in
     record {
-      got = input b.got d.got j.got;
+      got = input_of b.got d.got j.got;
       takes = then_takes a (then_takes b.takes (then_takes f (then_takes g j.takes)));
-      alike = ap3 input b.alike d.alike j.alike;
+      alike = ap3 input_of b.alike d.alike j.alike;
     }
-item_reads (output w path) toks ps h k =
-    let tail = lexemes_in (path_layout path ++ (feed ∷ []) ++ ps) in
-    let a = take_says (key keys.Output) toks (word w.text ∷ key keys.From ∷ tail) k in
-    let b = take_name w a.back (key keys.From ∷ tail) a.rest in
+item_reads (output o) toks ps h k =
+    let tail = lexemes_in (path_layout o.path ++ (feed ∷ []) ++ ps) in
+    let a = take_says (key keys.Output) toks (word o.name.text ∷ key keys.From ∷ tail) k in
+    let b = take_name o.name a.back (key keys.From ∷ tail) a.rest in
     let c = take_says (key keys.From) b.takes.back tail b.takes.rest in
-    let d = path_reads path c.back (feed ∷ ps) c.rest in
+    let d = path_reads o.path c.back (feed ∷ ps) c.rest in
     record {
-      got = output b.got d.got;
+      got = output_of b.got d.got;
       takes = then_takes a (then_takes b.takes (then_takes c d.takes));
-      alike = ap2 output b.alike d.alike;
+      alike = ap2 output_of b.alike d.alike;
     }
-item_reads (resource w) toks ps h k =
-    let a = take_says (key keys.Resource) toks (word w.text ∷ lexemes_in ps) k in
-    let b = take_name w a.back (lexemes_in ps) a.rest in
-    record { got = resource b.got; takes = then_takes a b.takes; alike = ap resource b.alike }
-item_reads (process w inside vars ports) toks ps h k =
+item_reads (resource r) toks ps h k =
+    let a = take_says (key keys.Resource) toks (word r.name.text ∷ lexemes_in ps) k in
+    let b = take_name r.name a.back (lexemes_in ps) a.rest in
+    record { got = resource_of b.got; takes = then_takes a b.takes; alike = ap resource_of b.alike }
+item_reads (process p) toks ps h k =
     let t = both _ _ h in
     let u = both _ _ t.1 in
     let v = both _ _ u.1 in
-    let var_lines = flat_map var_layout vars in
-    let port_lines = flat_map port_layout ports in
+    let var_lines = flat_map var_layout p.vars in
+    let port_lines = flat_map port_layout p.ports in
     let block = braced 0 (var_lines ++ port_lines) in
-    let all = inside_layout inside ++ (space ∷ block) ++ (feed ∷ []) ++ ps in
+    let all = inside_layout p.inside ++ (space ∷ block) ++ (feed ∷ []) ++ ps in
     let behind = space ∷ block ++ (feed ∷ ps) in
     let end = indent 0 ∷ say (mark RightBrace) ∷ feed ∷ ps in
-    let a = take_says (key keys.Process) toks (word w.text ∷ lexemes_in all) k in
-    let b = take_name w a.back (lexemes_in all) a.rest in
-    let c = inside_reads inside b.takes.back behind (moved b.takes.back all (inside_layout inside ++ behind) b.takes.rest (assoc3 (inside_layout inside) (space ∷ block) (feed ∷ []) ps)) in
+    let a = take_says (key keys.Process) toks (word p.name.text ∷ lexemes_in all) k in
+    let b = take_name p.name a.back (lexemes_in all) a.rest in
+    let c = inside_reads p.inside b.takes.back behind (moved b.takes.back all (inside_layout p.inside ++ behind) b.takes.rest (assoc3 (inside_layout p.inside) (space ∷ block) (feed ∷ []) ps)) in
     let d = open_brace 0 (var_lines ++ port_lines) (feed ∷ ps) c.takes.back c.takes.rest in
-    let e = each_reads var_form var_at_start is_var var_layout var_reads vars d.back (port_lines ++ end) v.0 (onto d.back var_lines port_lines end d.rest) in
-    let f = each_reads port_form port_at_start is_port port_layout port_reads ports e.takes.back end v.1 e.takes.rest in
+    let e = each_reads var_form var_at_start is_var var_layout var_reads p.vars d.back (port_lines ++ end) v.0 (onto d.back var_lines port_lines end d.rest) in
+    let f = each_reads port_form port_at_start is_port port_layout port_reads p.ports e.takes.back end v.1 e.takes.rest in
     let lines = then_takes e.takes f.takes in
     let g = take_says (mark RightBrace) lines.back (lexemes_in ps) lines.rest in
     record {
-      got = process b.got c.got e.got f.got;
+      got = process_of b.got c.got e.got f.got;
       takes = then_takes a (then_takes b.takes (then_takes c.takes (then_takes d (then_takes lines g))));
-      alike = same_process (word_at_start b.got) (word_at_start w) (option_map word_at_start c.got) (option_map word_at_start inside) (map var_at_start e.got) (map var_at_start vars) (map port_at_start f.got) (map port_at_start ports) b.alike c.alike e.alike f.alike;
+      alike = same_process (word_at_start b.got) (word_at_start p.name) (option_map word_at_start c.got) (option_map word_at_start p.inside) (map var_at_start e.got) (map var_at_start p.vars) (map port_at_start f.got) (map port_at_start p.ports) b.alike c.alike e.alike f.alike;
     }
 
 -- a whole graph

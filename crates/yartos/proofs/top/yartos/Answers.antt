@@ -7,9 +7,9 @@ use Rattle.yartos.specs.Answer.{IfVerdict}
 use Rattle.yartos.specs.Causes.{usage_line}
 use Rattle.yartos.specs.FileCauses.{long_line}
 use Rattle.yartos.specs.Reads.{IsFirstLong}
-use Rattle.yartos.specs.Words.{command_found, files_of, judges, later, misuse, request_of, texts}
+use Rattle.yartos.specs.Words.{IsNotBuilt, command_found, demo, files_of, judges, misuse, request_of, texts}
 use Rattle.yartos.proofs.Commands.{first_long}
-use Rattle.yartos.proofs.Requests.{due_is_called}
+use Rattle.yartos.proofs.Requests.{due_is_called, not_built_due}
 use Rattle.yartos.proofs.Told.{due_for, no_write_fault, or_no_memory, told_whole}
 use Rattle.yartos.proofs.top.yartos.Goals as goal
 
@@ -29,21 +29,41 @@ returns-in-Misuse-clause-front g c = λ e.
     let due = due_for told misuse (request_of words) Usage usage_line form (record { cause = tt; verdict = refl; told = refl }) in
     (status_of Usage, usage_line, record { verdict = Usage; is = refl; due = due }, c.tell.ensures.front e)
 
-pub returns-in-Later-clause-verdict : goal.returns-in-Later-clause-verdict
-returns-in-Later-clause-verdict g c =
+pub returns-in-Demo-clause-verdict : goal.returns-in-Demo-clause-verdict
+returns-in-Demo-clause-verdict g c =
     let told = g.S.Shelf.held c.args.shelf.now in
     let words = texts c.args.words.now.items in
-    let form : later ≡ request_of words = c.in-Later.ensures ∙ ap (λ ws. request_of (texts ws)) c.deref.ensures.value in
-    let due = due_for told later (request_of words) NotYet not_yet_line form (record { cause = tt; verdict = refl; told = refl }) in
-    told_whole told words c.tell-in-Later.result NotYet not_yet_line (λ (t : List ℕ). g.K.Sink.written c.tell-in-Later.new.out ≡ add (g.K.Sink.written c.args.out.now) t) due c.tell-in-Later.ensures.told c.tell-in-Later.ensures.whole
+    let request = demo c.in-Demo.number in
+    let form : request ≡ request_of words = c.in-Demo.ensures ∙ ap (λ ws. request_of (texts ws)) c.deref.ensures.value in
+    let due = due_for told request (request_of words) NotYet not_yet_line form (not_built_due told request tt) in
+    told_whole told words c.tell-in-Demo.result NotYet not_yet_line (λ (t : List ℕ). g.K.Sink.written c.tell-in-Demo.new.out ≡ add (g.K.Sink.written c.args.out.now) t) due c.tell-in-Demo.ensures.told
+    c.tell-in-Demo.ensures.whole
 
-pub returns-in-Later-clause-front : goal.returns-in-Later-clause-front
-returns-in-Later-clause-front g c = λ e.
+pub returns-in-Demo-clause-front : goal.returns-in-Demo-clause-front
+returns-in-Demo-clause-front g c = λ e.
     let told = g.S.Shelf.held c.args.shelf.now in
     let words = texts c.args.words.now.items in
-    let form : later ≡ request_of words = c.in-Later.ensures ∙ ap (λ ws. request_of (texts ws)) c.deref.ensures.value in
-    let due = due_for told later (request_of words) NotYet not_yet_line form (record { cause = tt; verdict = refl; told = refl }) in
-    (status_of NotYet, not_yet_line, record { verdict = NotYet; is = refl; due = due }, c.tell-in-Later.ensures.front e)
+    let request = demo c.in-Demo.number in
+    let form : request ≡ request_of words = c.in-Demo.ensures ∙ ap (λ ws. request_of (texts ws)) c.deref.ensures.value in
+    let due = due_for told request (request_of words) NotYet not_yet_line form (not_built_due told request tt) in
+    (status_of NotYet, not_yet_line, record { verdict = NotYet; is = refl; due = due }, c.tell-in-Demo.ensures.front e)
+
+pub returns-in-Demo-clause-no_form : goal.returns-in-Demo-clause-no_form
+returns-in-Demo-clause-no_form g c = λ none.
+    let words = texts c.args.words.now.items in
+    let form : demo c.in-Demo.number ≡ request_of words = c.in-Demo.ensures ∙ ap (λ ws. request_of (texts ws)) c.deref.ensures.value in
+    absurd (subst IsNotBuilt (form ∙ none) tt)
+
+pub returns-in-Demo-clause-complete : goal.returns-in-Demo-clause-complete
+returns-in-Demo-clause-complete g c = λ held due tells calls shelf sink.
+    let told = g.S.Shelf.held c.args.shelf.now in
+    let words = texts c.args.words.now.items in
+    let request = demo c.in-Demo.number in
+    let form : request ≡ request_of words = c.in-Demo.ensures ∙ ap (λ ws. request_of (texts ws)) c.deref.ensures.value in
+    let result = c.tell-in-Demo.result in
+    let kept = no_write_fault result (status_of NotYet) (g.K.Sink.faults c.args.out.now) (g.K.Sink.faults c.tell-in-Demo.new.out) c.tell-in-Demo.ensures.told c.tell-in-Demo.ensures.failed sink in
+    let is = due_for told request (request_of words) NotYet not_yet_line form (not_built_due told request tt) in
+    or_no_memory result due (kept ∙ due_is_called told held words NotYet not_yet_line due tells is calls)
 
 pub returns-in-Ok-clause-verdict : goal.returns-in-Ok-clause-verdict
 returns-in-Ok-clause-verdict g c =

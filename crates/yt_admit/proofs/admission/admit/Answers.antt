@@ -1,6 +1,6 @@
 use Rattle.yt_graph.specs.AstPicture.{ast_tree}
 use Rattle.yt_admit.specs.Admissions.{IsAdmissionOf}
-use Rattle.yt_admit.specs.Found.{IsAdmissionIn}
+use Rattle.yt_admit.specs.Inside.Judged.{IsAdmissionIn}
 use Rattle.yt_admit.proofs.Answered.{admission_of, unread_refusal}
 use Rattle.yt_admit.proofs.Lemmas.{if_ok_from}
 use Rattle.yt_admit.proofs.admission.admit.Goals as goal

@@ -8,12 +8,12 @@ use Rattle.yt_chan.proofs.next.add_job.Goals.{then-k-wires, else-k-wires}
 
 pub loop-out-init : goal.loop-out-init
 loop-out-init c =
-    adds_none (targets_of c.args.wires.now c.args.queues.now c.args.ports.now c.args.outputs.now) c.args.heads.now _ c.requires.next (λ t among. let a = among.1 in let b = among.2 in absurd (omega arith))
+    adds_none (targets_of c.args.kept.now.wires.now c.args.kept.now.queues.now c.args.kept.now.ports.now c.args.kept.now.outputs.now) c.args.heads.now _ c.requires.next (λ t among. let a = among.1 in let b = among.2 in absurd (omega arith))
 
 pub loop-out-preserved : goal.loop-out-preserved
 loop-out-preserved c =
-    let wires = c.args.wires.now in
-    let T = targets_of wires c.args.queues.now c.args.ports.now c.args.outputs.now in
+    let wires = c.args.kept.now.wires.now in
+    let T = targets_of wires c.args.kept.now.queues.now c.args.kept.now.ports.now c.args.kept.now.outputs.now in
     let n = c.loop-out.out in
     let there = c.requires.there in
     let k = c.table_at-k.result in
@@ -37,7 +37,7 @@ loop-out-preserved c =
 
 pub returns : goal.returns
 returns c =
-    let wires = c.args.wires.now in
-    let T = targets_of wires c.args.queues.now c.args.ports.now c.args.outputs.now in
+    let wires = c.args.kept.now.wires.now in
+    let T = targets_of wires c.args.kept.now.queues.now c.args.kept.now.ports.now c.args.kept.now.outputs.now in
     adds_as T c.args.heads.now c.loop-out.heads (AmongOuts wires c.args.task c.loop-out.out) _ c.loop-out.invariant
     (λ t e. of_port wires c.args.table.now c.args.task c.loop-out.out t c.requires.table c.requires.there.0 c.loop-out-test.false e)

@@ -2,4 +2,4 @@ use Rattle.yt_chan.specs.Inside.Next.{Adds, AmongOutputs, targets_of}
 use Rattle.yt_chan.proofs.next.add_outputs.Given as goal
 
 abbrev pub invariant-loop-number : goal.invariant-loop-number
-invariant-loop-number l = Adds (targets_of l.wires l.queues l.ports l.outputs) l.initial.heads l.heads (AmongOutputs l.numbers l.number-index)
+invariant-loop-number l = Adds (targets_of l.kept.wires.now l.kept.queues.now l.kept.ports.now l.kept.outputs.now) l.initial.heads l.heads (AmongOutputs l.numbers l.number-index)

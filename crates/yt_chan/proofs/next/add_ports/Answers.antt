@@ -5,17 +5,17 @@ use Rattle.yt_chan.proofs.next.add_ports.Goals as goal
 
 pub loop-number-init : goal.loop-number-init
 loop-number-init c =
-    adds_none (targets_of c.args.wires.now c.args.queues.now c.args.ports.now c.args.outputs.now) c.args.heads.now (AmongPorts c.args.numbers.now 0) c.requires.next
+    adds_none (targets_of c.args.kept.now.wires.now c.args.kept.now.queues.now c.args.kept.now.ports.now c.args.kept.now.outputs.now) c.args.heads.now (AmongPorts c.args.numbers.now 0) c.requires.next
     (λ t among. let b = among.1 in absurd (omega arith))
 
 pub loop-number-preserved : goal.loop-number-preserved
 loop-number-preserved c =
     let n = c.loop-number.number-index in
-    adds_then (targets_of c.args.wires.now c.args.queues.now c.args.ports.now c.args.outputs.now) c.args.heads.now c.loop-number.heads c.add_next.new.heads
+    adds_then (targets_of c.args.kept.now.wires.now c.args.kept.now.queues.now c.args.kept.now.ports.now c.args.kept.now.outputs.now) c.args.heads.now c.loop-number.heads c.add_next.new.heads
     (AmongPorts c.args.numbers.now n) _ (AmongPorts c.args.numbers.now (n + 1)) c.loop-number.invariant c.add_next.ensures (λ t among. more_ports c.args.numbers.now n t among)
 
 pub returns : goal.returns
 returns c =
-    let T = targets_of c.args.wires.now c.args.queues.now c.args.ports.now c.args.outputs.now in
+    let T = targets_of c.args.kept.now.wires.now c.args.kept.now.queues.now c.args.kept.now.ports.now c.args.kept.now.outputs.now in
     let e : c.loop-number.number-index ≡ length c.args.numbers.now = let a = c.loop-number-test.false in let b = c.loop-number.auto.number-index-end in omega arith in
     subst (λ (k : ℕ). Adds T c.args.heads.now c.loop-number.heads (AmongPorts c.args.numbers.now k)) e c.loop-number.invariant

@@ -7,14 +7,8 @@ use Rattle.yt_list.specs.Numbered.{numbered_or}
 use Rattle.yt_graph.specs.Labels.{labels_of}
 use Rattle.yt_cmd_check.specs.TaskLines.{named_tasks}
 use Rattle.yt_cmd_check.proofs.ShownTasks.{group_none, group_short, label_short, resource_there}
-use Rattle.yt_cmd_check.proofs.LineLemmas.{group_shown, named_at, placed, task_more}
+use Rattle.yt_cmd_check.proofs.LineLemmas.{named_at, placed, task_more}
 use Rattle.yt_cmd_check.proofs.tasks_text.tasks_text.Goals as goal
-
-pub group_name-requires : goal.group_name-requires
-group_name-requires c =
-    let at = placed c.args.set.now c.loop-n.n c.task-task.result c.task-task.ensures.value in
-    resource_there (graph_tree c.args.graph.now) c.loop-n.n c.task-task.result c.requires.well_formed
-    (subst (λ (ts : List Task). slice_get ts c.loop-n.n ≡ Some c.task-task.result) c.requires.tasks at)
 
 pub put_task-requires-clause-label : goal.put_task-requires-clause-label
 put_task-requires-clause-label c =
@@ -44,8 +38,7 @@ loop-n-preserved c =
     let line : c.bytes.result.now ≡ task_line (numbered_or (labels_of graph) (c.loop-n.n + 1) []) c.task-task.result (numbered_or graph.groups c.task-task.result.resource []) =
     c.bytes.ensures.value ∙ c.put_task.ensures
     ∙ ap (λ l. task_line l c.task-task.result c.group_name.result.now) label
-    ∙ ap (λ g. task_line (numbered_or (labels_of graph) (c.loop-n.n + 1) []) c.task-task.result g) c.group_name.ensures
-    ∙ group_shown (numbered_or (labels_of graph) (c.loop-n.n + 1) []) c.task-task.result graph.groups in
+    ∙ ap (λ g. task_line (numbered_or (labels_of graph) (c.loop-n.n + 1) []) c.task-task.result g) c.group_name.ensures in
     task_more (named_tasks graph) c.loop-n.n c.args.set.now c.task-task.result c.bytes.result.now c.loop-n.text c.put-in-loop-n.new.self at line
     (c.in_ok-put-2.ensures ∙ ap (λ x. x ++ 10 ∷ []) c.in_ok-put.ensures)
     ∙ c.loop-n.invariant

@@ -1,16 +1,16 @@
-use Rattle.std.proofs.Common.{◌≡◌, ℕ, List, refl}
-use Rattle.std.specs.Prelude.{Ok}
+use Rattle.std.proofs.Common.{refl}
 use Rattle.yt_answer.specs.Due.{IsDue}
-use Rattle.yt_log.specs.PlanText.{plan_of}
 use Rattle.yt_cmd_play.specs.Causes.{IsPlanText, plan_at_fault, plan_verdict}
-use Rattle.yt_cmd_play.proofs.Plays.{if_ok_from, no_line_of_memory}
+use Rattle.yt_playing.specs.Plays.{IsEndingText, ending_verdict}
+use Rattle.yt_cmd_play.proofs.Plans.{if_ok_from, no_line_of_memory, played_due}
 use Rattle.yt_cmd_play.proofs.answer.plan_answer.Goals as goal
 
 pub returns-in-Ok : goal.returns-in-Ok
 returns-in-Ok c =
-    if_ok_from (λ a. (text : List ℕ) → plan_of c.args.named.now text ≡ Ok c.in-Ok.plan → IsDue (plan_verdict {set = c.args.named.now} {plan = text}) IsPlanText a.verdict a.text)
-    (λ a. IsDue (plan_verdict {set = c.args.named.now} {plan = c.args.plan.now}) IsPlanText a.verdict a.text) c.play_plan.result
-    (λ a h. h c.args.plan.now c.in-Ok.ensures.ok) c.play_plan.ensures
+    let set = c.args.named.now in
+    if_ok_from (λ a. IsDue (ending_verdict {set = set} {plan = c.in-Ok.plan}) IsEndingText a.verdict a.text)
+    (λ a. IsDue (plan_verdict {set = set} {plan = c.args.plan.now}) IsPlanText a.verdict a.text) c.played_answer.result
+    (λ a h. played_due set c.args.plan.now c.in-Ok.plan a.verdict a.text c.in-Ok.ensures.ok h) c.played_answer.ensures
 
 pub returns-in_ok-plan_line-in-Err : goal.returns-in_ok-plan_line-in-Err
 returns-in_ok-plan_line-in-Err c = record {

@@ -3,7 +3,7 @@ use Rattle.yt_answer.specs.Due.{IsDue}
 use Rattle.yt_answer.proofs.Lemmas.{due_answer}
 use Rattle.yt_fitting.specs.Sets.{at_fault, read}
 use Rattle.yt_cmd_play.specs.Causes.{IsPlanText, IsPlayText, plan_verdict, play_verdict}
-use Rattle.yt_cmd_play.proofs.Plays.{if_ok_from}
+use Rattle.yt_cmd_play.proofs.Plans.{if_ok_from}
 use Rattle.yt_cmd_play.proofs.answer.play_answer.Goals as goal
 
 pub returns-in-Set : goal.returns-in-Set

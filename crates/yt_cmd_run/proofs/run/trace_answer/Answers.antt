@@ -47,7 +47,7 @@ returns-in-Some-first_fault c =
     let found : fault_in (the_period g) c.in-Some.messages ≡ Some c.in-Some-first_fault.fault =
     ap (λ p. fault_in p c.in-Some.messages) period ∙ ap (fault_in c.at-input.result.now.period) (sym c.as_slice-2.ensures) ∙ sym c.first_fault.ensures ∙ c.in-Some-first_fault.is in
     fault_due (ast_tree c.args.ast.now) g c.args.trace.now c.as_slice.result.now c.in-Some.messages c.in-Some-first_fault.fault c.in_ok-fault_text.field-0
-    c.requires.well_formed (c.is_first.ensures.0 yes) named traced found c.in_ok-fault_text.ensures
+    (c.is_first.ensures.0 yes) named traced found c.in_ok-fault_text.ensures
 
 pub run_first-requires-clause-fits : goal.run_first-requires-clause-fits
 run_first-requires-clause-fits c =
@@ -75,7 +75,7 @@ returns c =
     let none : fault_in (the_period g) c.in-Some.messages ≡ None =
     ap (λ p. fault_in p c.in-Some.messages) period ∙ ap (fault_in c.at-input.result.now.period) (sym c.as_slice-2.ensures) ∙ sym c.first_fault.ensures ∙ c.in_default-first_fault.is in
     let printed : c.done.result.text ≡ run_text g c.in_ok-told.told.log c.in_ok-told.told.outs = ap (λ (a : Answer). a.text) c.done.ensures ∙ c.in_ok-run_text.ensures in
-    legal_due (ast_tree c.args.ast.now) g c.args.trace.now c.as_slice.result.now c.in-Some.messages c.done.result.verdict c.done.result.text c.requires.well_formed runs named traced none (ap (λ (a : Answer). a.verdict) c.done.ensures)
+    legal_due (ast_tree c.args.ast.now) g c.args.trace.now c.as_slice.result.now c.in-Some.messages c.done.result.verdict c.done.result.text runs named traced none (ap (λ (a : Answer). a.verdict) c.done.ensures)
     (record {
       log = c.in_ok-told.told.log;
       lines = c.in_ok-told.told.outs;

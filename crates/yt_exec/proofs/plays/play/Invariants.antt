@@ -1,11 +1,11 @@
 use Rattle.std.proofs.Common.{◌≡◌, ◌+◌, ◌-◌, ◌≤◌, length}
-use Rattle.yt_exec.specs.Counting.{IsPlaying}
+use Rattle.yt_exec.specs.Inside.Counting.{IsPlaying}
 use Rattle.yt_exec.proofs.plays.play.Given as goal
 
 abbrev pub invariant-loop-playing : goal.invariant-loop-playing
 invariant-loop-playing l = record {
   playing : IsPlaying l.set l.plan l.playing.executive l.playing.counts.rows.items l.playing.next l.playing.log;
-  tasks : l.playing.counts.tasks.items ≡ l.set;
+  set : l.playing.counts.set.now ≡ l.set;
   few : length l.playing.log ≤ l.upto;
 }
 

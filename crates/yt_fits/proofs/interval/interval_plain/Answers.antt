@@ -1,5 +1,5 @@
 use Rattle.std.proofs.Common.{refl, arith}
-use Rattle.yt_set.proofs.Lemmas.{periods_of}
+use Rattle.yt_set.proofs.Lemmas.{due_in_periods}
 use Rattle.yt_fits.proofs.IntervalLemmas.{fits_from_room, room_beyond, room_between, room_more}
 use Rattle.yt_fits.proofs.interval.interval_plain.Goals as goal
 
@@ -13,7 +13,7 @@ loop-point-preserved c =
     let bound = c.longest-longest.ensures.bound in
     record {
       short = omega arith;
-      rooms = room_between tasks point c.next_point-point.result (periods_of tasks c.len.ensures.in_range) c.next_point-point.ensures.first more;
+      rooms = room_between tasks point c.next_point-point.result (due_in_periods tasks c.len.ensures.in_range) c.next_point-point.ensures.first more;
     }
 
 pub returns-clause-none : goal.returns-clause-none

@@ -1,17 +1,14 @@
-use Rattle.std.proofs.Common.{◌≡◌, [], ◌+◌, ◌<◌, ◌≤◌, length, sym, ◌∙◌, arith}
+use Rattle.std.proofs.Common.{◌≤◌, length, sym, ◌∙◌, arith}
 use Rattle.yt_witness.specs.Witnesses.{arrivals_of, as_arrivals}
 use Rattle.yt_witness.proofs.Lemmas.{length_arrivals}
-use Rattle.yt_list.specs.Numbered.{numbered_or}
-use Rattle.yt_fitting.proofs.TaskLines.{arrive_last, arrive_more, named_index, placed}
+use Rattle.yt_fitting.proofs.TaskLines.{arrive_last, arrive_more, placed}
 use Rattle.yt_fitting.proofs.overload.put_arrivals.Goals as goal
 
 pub loop-n-preserved : goal.loop-n-preserved
 loop-n-preserved c =
     let all = arrivals_of c.args.set.now c.args.pattern.now in
-    let at = placed all c.loop-n.n (as_arrivals c.arrive.result) c.arrive.ensures in
-    let there : c.loop-n.n < length c.args.labels.now = omega (arith, c.requires.labels, c.len-n-end.ensures.len, c.loop-n-test.true) in
-    let named : c.as_slice.result.now ≡ numbered_or c.args.labels.now (c.loop-n.n + 1) [] = c.as_slice.ensures ∙ named_index c.args.labels.now c.loop-n.n c.index-labels-n.result there c.index-labels-n.is in
-    arrive_more c.args.labels.now c.loop-n.n all (as_arrivals c.arrive.result) c.as_slice.result.now c.loop-n.text c.put_arrival.new.text at named c.in_ok-put_arrival.ensures ∙ c.loop-n.invariant
+    let at = placed all c.loop-n.n (as_arrivals c.arrive.result) c.arrive.ensures.arrivals in
+    arrive_more c.args.labels.now c.loop-n.n all (as_arrivals c.arrive.result) c.label_of.result.now c.loop-n.text c.put_arrival.new.text at c.label_of.ensures c.in_ok-put_arrival.ensures ∙ c.loop-n.invariant
 
 pub returns : goal.returns
 returns c =

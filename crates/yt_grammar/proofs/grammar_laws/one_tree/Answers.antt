@@ -1,6 +1,6 @@
 use Rattle.std.proofs.Common.{◌≡◌, List, [], sym, ◌∙◌}
 use Rattle.yt_graph.specs.AstPicture.{ItemTree}
-use Rattle.yt_grammar.specs.Reading.{Reading, got}
+use Rattle.yt_grammar.specs.Inside.Reading.{Reading, got}
 use Rattle.yt_grammar.proofs.reading.Graph.{graph_only}
 use Rattle.yt_grammar.proofs.grammar_laws.one_tree.Goals as goal
 

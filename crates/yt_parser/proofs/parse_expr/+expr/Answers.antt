@@ -3,7 +3,7 @@ use Rattle.std.proofs.lemmas.Result.{err_from_is_err_and}
 use Rattle.yt_graph.specs.AstPicture.{ast_expr_tree}
 use Rattle.yt_graph.specs.AstWellFormed.{ast_expr_depth}
 use Rattle.yt_grammar.specs.declared.sign.Mark.TheVariants.{Comma}
-use Rattle.yt_grammar.specs.Reading.{got, at_mark, op_at, expr_reader}
+use Rattle.yt_grammar.specs.Inside.Reading.{got, at_mark, op_at, expr_reader}
 use Rattle.yt_parser.proofs.parsing.Loops.{goes_on-first, goes_on-picture}
 use Rattle.yt_parser.proofs.parsing.Exprs.{expr_reader-levels, rank_reader-chain, chain-link, chain-stop, exprs_of-map, ast_exprs_depth-more}
 use Rattle.yt_parser.proofs.parse_expr.+expr.Goals as goal

@@ -2,7 +2,7 @@ use Rattle.std.proofs.Common.{◌≡◌, ◌+◌, ◌-◌, ◌*◌, ◌≤◌, �
 use Rattle.yt_graph.specs.AstPicture.{ast_expr_tree, ast_exprs_tree}
 use Rattle.yt_graph.specs.AstWellFormed.{ast_exprs_depth}
 use Rattle.yt_grammar.specs.declared.sign.Mark.TheVariants.{Comma}
-use Rattle.yt_grammar.specs.Reading.{at_mark, behind_mark, one_or_more, chain, expr_reader}
+use Rattle.yt_grammar.specs.Inside.Reading.{at_mark, behind_mark, one_or_more, chain, expr_reader}
 use Rattle.yt_parser.proofs.parsing.Loops.{GoesOn}
 use Rattle.yt_parser.proofs.parse_expr.+expr.Given as goal
 

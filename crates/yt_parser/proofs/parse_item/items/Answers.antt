@@ -1,6 +1,6 @@
 use Rattle.std.proofs.Common.{◌≡◌, true}
 use Rattle.yt_graph.specs.AstPicture.{item_tree}
-use Rattle.yt_grammar.specs.Reading.{at_item, item_reader}
+use Rattle.yt_grammar.specs.Inside.Reading.{at_item, item_reader}
 use Rattle.yt_parser.proofs.parsing.Loops.{goes_on-begin, goes_on-picture}
 use Rattle.yt_parser.proofs.parse_item.items.Goals as goal
 

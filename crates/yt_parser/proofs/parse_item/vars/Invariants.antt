@@ -1,6 +1,6 @@
 use Rattle.std.proofs.Common.{◌≤◌, length}
 use Rattle.yt_grammar.specs.declared.sign.Keyword.TheVariants as keys
-use Rattle.yt_grammar.specs.Reading.{at_key, many, var_reader}
+use Rattle.yt_grammar.specs.Inside.Reading.{at_key, many, var_reader}
 use Rattle.yt_parser.proofs.parsing.Loops.{GoesOn}
 use Rattle.yt_parser.proofs.parse_item.vars.Given as goal
 

@@ -1,6 +1,6 @@
 use Rattle.std.proofs.Common.{◌≡◌, true, arith}
 use Rattle.yt_grammar.specs.declared.sign.Keyword.TheVariants as keys
-use Rattle.yt_grammar.specs.Reading.{at_key, out_reader}
+use Rattle.yt_grammar.specs.Inside.Reading.{at_key, out_reader}
 use Rattle.yt_parser.proofs.parsing.Loops.{goes_on-begin, goes_on-step}
 use Rattle.yt_parser.proofs.parse_port.outs.Goals as goal
 

@@ -1,7 +1,7 @@
 use Rattle.std.proofs.Common.{◌≡◌, true, arith}
 use Rattle.yt_graph.specs.AstPicture.{port_decl_tree}
 use Rattle.yt_grammar.specs.declared.sign.Keyword.TheVariants as keys
-use Rattle.yt_grammar.specs.Reading.{at_key, port_reader}
+use Rattle.yt_grammar.specs.Inside.Reading.{at_key, port_reader}
 use Rattle.yt_parser.proofs.parsing.Loops.{goes_on-begin, goes_on-picture}
 use Rattle.yt_parser.proofs.parse_port.ports.Goals as goal
 

@@ -1,6 +1,6 @@
 use Rattle.std.proofs.Common.{◌≡◌, true, arith}
 use Rattle.yt_grammar.specs.declared.sign.Mark.TheVariants.{Comma}
-use Rattle.yt_grammar.specs.Reading.{at_mark, word_reader}
+use Rattle.yt_grammar.specs.Inside.Reading.{at_mark, word_reader}
 use Rattle.yt_parser.proofs.parsing.Loops.{goes_on-first, goes_on-step}
 use Rattle.yt_parser.proofs.parse_port.words.Goals as goal
 

@@ -1,6 +1,6 @@
 use Rattle.std.proofs.Common.{◌<◌, length}
 use Rattle.yt_grammar.specs.declared.sign.Mark.TheVariants.{Comma}
-use Rattle.yt_grammar.specs.Reading.{at_mark, behind_mark, one_or_more, word_reader}
+use Rattle.yt_grammar.specs.Inside.Reading.{at_mark, behind_mark, one_or_more, word_reader}
 use Rattle.yt_parser.proofs.parsing.Loops.{GoesOn}
 use Rattle.yt_parser.proofs.parse_port.words.Given as goal
 

@@ -1,7 +1,7 @@
 use Rattle.std.proofs.Common.{◌≡◌, true, ap, arith}
 use Rattle.std.proofs.lemmas.Result.{err_from_is_err_and}
 use Rattle.yt_graph.specs.AstPicture.{ast_stmt_tree}
-use Rattle.yt_grammar.specs.Reading.{got, at_stmt, stmt_reader, block_of, block_reader}
+use Rattle.yt_grammar.specs.Inside.Reading.{got, at_stmt, stmt_reader, block_of, block_reader}
 use Rattle.yt_parser.proofs.parsing.Loops.{goes_on-begin, goes_on-picture}
 use Rattle.yt_parser.proofs.parsing.Stmts.{block_reader-levels, block_of-map, made-stop}
 use Rattle.yt_parser.proofs.parse_stmt.+block.Goals as goal

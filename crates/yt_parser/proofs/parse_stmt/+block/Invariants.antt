@@ -1,6 +1,6 @@
 use Rattle.std.proofs.Common.{◌+◌, ◌*◌, ◌≤◌, map, length}
 use Rattle.yt_graph.specs.AstPicture.{ast_stmt_tree}
-use Rattle.yt_grammar.specs.Reading.{many, at_stmt, stmt_reader, block_reader}
+use Rattle.yt_grammar.specs.Inside.Reading.{many, at_stmt, stmt_reader, block_reader}
 use Rattle.yt_parser.proofs.parsing.Loops.{GoesOn}
 use Rattle.yt_parser.proofs.parse_stmt.+block.Given as goal
 

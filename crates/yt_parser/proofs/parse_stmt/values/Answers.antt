@@ -1,5 +1,5 @@
 use Rattle.std.proofs.Common.{ap}
-use Rattle.yt_grammar.specs.Reading.{got}
+use Rattle.yt_grammar.specs.Inside.Reading.{got}
 use Rattle.yt_parser.proofs.parsing.Exprs.{exprs_of-map}
 use Rattle.yt_parser.proofs.parse_stmt.values.Goals as goal
 

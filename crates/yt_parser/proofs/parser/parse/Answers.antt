@@ -1,8 +1,8 @@
 use Rattle.std.proofs.Common.{◌≡◌, None, Some}
 use Rattle.yt_grammar.specs.Lexemes.{toks_of}
-use Rattle.yt_grammar.specs.Reading.{got, graph_reader}
+use Rattle.yt_grammar.specs.Inside.Reading.{got, graph_reader}
 use Rattle.yt_graph.specs.AstPicture.{ast_tree}
-use Rattle.yt_parser.specs.Signs.{place_next}
+use Rattle.yt_parser.specs.Inside.Signs.{place_next}
 use Rattle.yt_parser.proofs.parsing.Lexed.{lexes-spans, lexes-tokens}
 use Rattle.yt_parser.proofs.parsing.Parsed.{read-spelled, read-only, stuck-fault, stuck-none, place-some, place-none}
 use Rattle.yt_grammar.proofs.Lemmas.{spelled_is_writable}

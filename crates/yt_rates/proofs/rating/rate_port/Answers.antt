@@ -1,8 +1,8 @@
-use Rattle.std.proofs.Common.{◌≡◌, ◌+◌, ◌-◌, ◌≤◌, None, Some, sym, ap, ◌∙◌, subst, arith}
-use Rattle.std.specs.Prelude.{slice_get}
+use Rattle.std.proofs.Common.{◌≡◌, ◌+◌, ◌≤◌, None, Some, sym, ◌∙◌, subst}
 use Rattle.std.proofs.lemmas.Option.{same_Some}
 use Rattle.std.proofs.lemmas.Result.{err_from_is_err_and}
 use Rattle.yt_graph.specs.Picture.{graph_tree, port_tree}
+use Rattle.yt_list.proofs.Lemmas.{numbered_next}
 use Rattle.yt_cost.proofs.Lemmas.{port_is, fine_port}
 use Rattle.yt_rates.specs.declared.fault.RateFault.TheVariants.{Over}
 use Rattle.yt_rates.specs.Faults.{port_fault}
@@ -31,8 +31,7 @@ rate_outs-requires-clause-sends c x is =
     let ports = (graph_tree c.args.graph.now).ports in
     let p = port_tree c.at-port.result.now in
     let there = port_is c.args.graph.now.ports c.args.place c.at-port.result.now c.at-port.ensures.get in
-    let place : c.args.place + 1 - 1 ≡ c.args.place = omega arith in
-    (c.requires.codes.each (c.args.place + 1) p (ap (slice_get ports) place ∙ there) x is).sends
+    (c.requires.codes.each (c.args.place + 1) p (numbered_next ports c.args.place ∙ there) x is).sends
 
 pub rate_outs-requires-clause-few : goal.rate_outs-requires-clause-few
 rate_outs-requires-clause-few c =

@@ -4,7 +4,7 @@ use Rattle.std.proofs.lemmas.Result.{err_from_is_err_and}
 use Rattle.yt_graph.specs.Picture.{graph_tree, port_tree}
 use Rattle.yt_rates.specs.Faults.{rate_fault}
 use Rattle.yt_rates.specs.Tables.{AreRatesOf}
-use Rattle.yt_rates.proofs.Rated.{none_rated, one_farther, found, all_rated, all_within, decides}
+use Rattle.yt_rates.proofs.Rated.{none_rated, one_farther, found, all_kept, all_rated, all_within, decides}
 use Rattle.yt_rates.proofs.rating.rates.Goals as goal
 
 pub loop-distance-init : goal.loop-distance-init
@@ -45,3 +45,9 @@ returns-clause-limits c =
     let g = graph_tree c.args.graph.now in
     let far : length g.ports < c.loop-distance.distance = omega (arith, c.loop-distance-test.false, c.len-distance-end.ensures, length-map c.args.graph.now.ports port_tree) in
     all_within g c.loop-distance.distance c.loop-distance.table.items c.requires.well_formed far c.loop-distance.invariant.rated
+
+pub new-requires : goal.new-requires
+new-requires c =
+    let g = graph_tree c.args.graph.now in
+    let far : length g.ports < c.loop-distance.distance = omega (arith, c.loop-distance-test.false, c.len-distance-end.ensures, length-map c.args.graph.now.ports port_tree) in
+    all_kept g c.loop-distance.distance c.loop-distance.table.items c.requires.well_formed far c.loop-distance.invariant.rated

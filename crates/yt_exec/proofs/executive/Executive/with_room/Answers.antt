@@ -1,4 +1,4 @@
-use Rattle.std.proofs.Common.{◌≡◌, ℕ, ◌-◌, List, [], length, map, replicate, Option, refl, sym, ap, ap₂, subst, ◌∙◌, rules}
+use Rattle.std.proofs.Common.{◌≡◌, ℕ, List, [], length, map, replicate, Option, refl, sym, ap, ap₂, subst, ◌∙◌, rules}
 use Rattle.yt_set.specs.declared.task.Task.{Task}
 use Rattle.yt_set.specs.Tasks.{IsTaskSet, floor_of}
 use Rattle.yt_ready.specs.declared.entry.Entry.{Entry}
@@ -31,4 +31,4 @@ returns-clause-stands c =
     let count : c.len.result ≡ length tasks = c.len.ensures ∙ c.in_ok-tasks.tasks.ok.0 in
     let releases : c.in_ok-releases.releases.items ≡ replicate (length tasks) no_release =
     c.in_ok-releases.ensures.items_if_clones_equal (λ y h. first_of (search rules, cc)) ∙ ap (λ (n : ℕ). replicate n no_release) count in
-    λ left. stands_empty _ left none refl (λ task. ap (λ (rs : List LastJob). release_of rs task) releases ∙ none_released (length tasks) (task - 1))
+    λ left. stands_empty _ left none refl (λ task. ap (λ (rs : List LastJob). release_of rs task) releases ∙ none_released (length tasks) task)

@@ -1,6 +1,6 @@
 use Rattle.std.proofs.Common.{◌≡◌, length, sym, ap, subst, ◌∙◌}
 use Rattle.yt_log.specs.Ticks.{Ticks}
-use Rattle.yt_exec.specs.Counting.{IsPlaying}
+use Rattle.yt_exec.specs.Inside.Counting.{IsPlaying}
 use Rattle.yt_exec.specs.Moments.{start}
 use Rattle.yt_exec.proofs.Playings.{playing_start}
 use Rattle.yt_exec.proofs.plays.Playing.new.Goals as goal

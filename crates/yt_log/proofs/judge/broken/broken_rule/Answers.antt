@@ -1,7 +1,7 @@
 use Rattle.std.proofs.Common.{◌≡◌, ℕ, ◌<◌, List, length, false, true, refl, subst}
 use Rattle.yt_log.specs.declared.plan.PlanItem.{PlanItem}
 use Rattle.yt_log.specs.Tasks.{task_of}
-use Rattle.yt_log.specs.Heads.{KeepsResource, head_at}
+use Rattle.yt_log.specs.Inside.Heads.{KeepsResource, head_at}
 use Rattle.yt_log.proofs.Plans.{one_item}
 use Rattle.yt_log.proofs.Following.{unlawful_at, shared_at, not_least_at, task_waits}
 use Rattle.yt_log.proofs.judge.broken.broken_rule.Goals as goal

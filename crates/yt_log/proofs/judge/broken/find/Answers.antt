@@ -1,7 +1,7 @@
 use Rattle.std.proofs.Common.{sym, ap, ◌∙◌, arith}
 use Rattle.yt_log.specs.declared.plan.PlanItem.{PlanItem}
 use Rattle.yt_log.specs.Plan.{same_job}
-use Rattle.yt_log.specs.Heads.{item_at}
+use Rattle.yt_log.specs.Inside.Heads.{item_at}
 use Rattle.yt_log.proofs.Jobs.{same_job_true}
 use Rattle.yt_log.proofs.Places.{has_place, placed}
 use Rattle.yt_log.proofs.judge.broken.find.Goals as goal

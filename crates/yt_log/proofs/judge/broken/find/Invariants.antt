@@ -1,5 +1,5 @@
 use Rattle.std.proofs.Common.{◌≡◌, ℕ, ◌<◌}
-use Rattle.yt_log.specs.Heads.{item_at}
+use Rattle.yt_log.specs.Inside.Heads.{item_at}
 use Rattle.yt_log.proofs.judge.broken.find.Given as goal
 
 abbrev pub invariant-loop-item : goal.invariant-loop-item

@@ -1,6 +1,6 @@
 use Rattle.std.proofs.Common.{ℕ, suc, ◌<◌, List, length, refl, subst, arith}
 use Rattle.yt_log.specs.declared.plan.PlanItem.{PlanItem}
-use Rattle.yt_log.specs.Heads.{Starts, head_at}
+use Rattle.yt_log.specs.Inside.Heads.{Starts, head_at}
 use Rattle.yt_log.proofs.Reading.{reads_first}
 use Rattle.yt_log.proofs.Following.{follows_first, unbroken_at_end}
 use Rattle.yt_log.proofs.judge.broken.first_broken.Goals as goal

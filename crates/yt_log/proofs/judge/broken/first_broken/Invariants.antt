@@ -1,6 +1,6 @@
 use Rattle.std.proofs.Common.{◌-◌}
 use Rattle.yt_log.specs.Segments.{segments_of}
-use Rattle.yt_log.specs.Following.{Follows, Reads}
+use Rattle.yt_log.specs.Inside.Following.{Follows, Reads}
 use Rattle.yt_log.proofs.judge.broken.first_broken.Given as goal
 
 abbrev pub invariant-loop-tick : goal.invariant-loop-tick

@@ -1,6 +1,6 @@
 use Rattle.std.proofs.Common.{◌∙◌, arith}
 use Rattle.yt_log.specs.Plan.{same_job}
-use Rattle.yt_log.specs.Heads.{head_at, item_at}
+use Rattle.yt_log.specs.Inside.Heads.{head_at, item_at}
 use Rattle.yt_log.proofs.Following.{not_same, same_from, runs_on, idles_on, none_breaks, idle_breaks, leaves}
 use Rattle.yt_log.proofs.judge.broken.follow.Goals as goal
 

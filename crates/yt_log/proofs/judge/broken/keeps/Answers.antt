@@ -1,7 +1,7 @@
 use Rattle.std.proofs.Common.{sym, ap, ◌∙◌, eqb-true, eq-eqb, arith}
 use Rattle.yt_set.specs.declared.task.Task.{Task}
 use Rattle.yt_log.specs.Plan.{same_job}
-use Rattle.yt_log.specs.Heads.{item_at}
+use Rattle.yt_log.specs.Inside.Heads.{item_at}
 use Rattle.yt_log.proofs.Places.{task_read}
 use Rattle.yt_log.proofs.Following.{not_same}
 use Rattle.yt_log.proofs.judge.broken.keeps.Goals as goal

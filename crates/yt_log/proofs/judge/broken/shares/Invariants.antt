@@ -1,5 +1,5 @@
 use Rattle.std.proofs.Common.{ℕ, ◌<◌}
-use Rattle.yt_log.specs.Heads.{KeepsResource, head_at}
+use Rattle.yt_log.specs.Inside.Heads.{KeepsResource, head_at}
 use Rattle.yt_log.proofs.judge.broken.shares.Given as goal
 
 abbrev pub invariant-loop-head : goal.invariant-loop-head

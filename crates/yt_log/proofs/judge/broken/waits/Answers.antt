@@ -1,6 +1,6 @@
 use Rattle.std.proofs.Common.{List, sym, subst}
 use Rattle.yt_log.specs.declared.job.Segment.{Segment}
-use Rattle.yt_log.specs.Counts.{AreOrdered}
+use Rattle.yt_log.specs.Inside.Counts.{AreOrdered}
 use Rattle.yt_log.proofs.Counting.{ordered_segments}
 use Rattle.yt_log.proofs.Following.{waiting_told, late_told}
 use Rattle.yt_log.proofs.judge.broken.waits.Goals as goal

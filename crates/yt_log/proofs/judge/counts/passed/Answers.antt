@@ -1,5 +1,5 @@
 use Rattle.std.proofs.Common.{ℕ, below_more, sym, ◌∙◌}
-use Rattle.yt_log.specs.Counts.{IsNoLater, segment_at}
+use Rattle.yt_log.specs.Inside.Counts.{IsNoLater, segment_at}
 use Rattle.yt_log.proofs.Counting.{no_later_from}
 use Rattle.yt_log.proofs.judge.counts.passed.Goals as goal
 

@@ -1,5 +1,5 @@
 use Rattle.std.proofs.Common.{ℕ, ◌<◌}
-use Rattle.yt_log.specs.Counts.{IsNoLater, segment_at}
+use Rattle.yt_log.specs.Inside.Counts.{IsNoLater, segment_at}
 use Rattle.yt_log.proofs.judge.counts.passed.Given as goal
 
 abbrev pub invariant-loop-n : goal.invariant-loop-n

@@ -1,6 +1,6 @@
 use Rattle.std.proofs.Common.{arith, ap}
 use Rattle.std.proofs.lemmas.List.{drop_all}
-use Rattle.yt_log.specs.Counts.{segment_at, ticks_below}
+use Rattle.yt_log.specs.Inside.Counts.{segment_at, ticks_below}
 use Rattle.yt_log.proofs.Counting.{counted_more, ordered_more, counted_all, ticks_below-nil, ticks_few}
 use Rattle.yt_log.proofs.judge.counts.ticks_below.Goals as goal
 

@@ -1,5 +1,5 @@
 use Rattle.std.proofs.Common.{◌≡◌, ◌+◌, drop}
-use Rattle.yt_log.specs.Counts.{AreOrdered, ticks_below}
+use Rattle.yt_log.specs.Inside.Counts.{AreOrdered, ticks_below}
 use Rattle.yt_log.proofs.judge.counts.ticks_below.Given as goal
 
 -- what was counted so far, and what is left to count, is all

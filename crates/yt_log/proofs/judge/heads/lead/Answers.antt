@@ -1,5 +1,5 @@
 use Rattle.std.proofs.Common.{refl, sym}
-use Rattle.yt_log.specs.Heads.{head_at}
+use Rattle.yt_log.specs.Inside.Heads.{head_at}
 use Rattle.yt_log.proofs.HeadChoices.{lead_alone, lead_new}
 use Rattle.yt_log.proofs.judge.heads.lead.Goals as goal
 

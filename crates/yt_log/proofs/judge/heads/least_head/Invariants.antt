@@ -1,4 +1,4 @@
-use Rattle.yt_log.specs.Heads.{Leads, head_at}
+use Rattle.yt_log.specs.Inside.Heads.{Leads, head_at}
 use Rattle.yt_log.proofs.judge.heads.least_head.Given as goal
 
 abbrev pub invariant-loop-n : goal.invariant-loop-n

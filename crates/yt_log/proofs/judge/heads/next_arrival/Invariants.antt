@@ -1,5 +1,5 @@
 use Rattle.std.proofs.Common.{ℕ, ◌<◌, ◌≤◌, length}
-use Rattle.yt_log.specs.Heads.{head_at, item_of}
+use Rattle.yt_log.specs.Inside.Heads.{head_at, item_of}
 use Rattle.yt_log.proofs.judge.heads.next_arrival.Given as goal
 
 abbrev pub invariant-loop-head : goal.invariant-loop-head

@@ -1,5 +1,5 @@
 use Rattle.std.proofs.Common.{ℕ, suc, ◌<◌}
-use Rattle.yt_log.specs.Heads.{Starts, head_at}
+use Rattle.yt_log.specs.Inside.Heads.{Starts, head_at}
 use Rattle.yt_log.proofs.judge.heads.start.Given as goal
 
 abbrev pub invariant-loop-n : goal.invariant-loop-n

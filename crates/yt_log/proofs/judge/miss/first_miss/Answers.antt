@@ -2,8 +2,8 @@ use Rattle.std.proofs.Common.{◌≡◌, ℕ, ◌+◌, ◌-◌, ◌<◌, ◌≤�
 use Rattle.yt_log.specs.declared.job.Segment.{Segment}
 use Rattle.yt_log.specs.declared.judge.miss.Miss.{Miss}
 use Rattle.yt_log.specs.declared.plan.PlanItem.{PlanItem}
-use Rattle.yt_log.specs.Counts.{segment_at, AreOrdered, AreJudged, Judges, Passes}
-use Rattle.yt_log.specs.Heads.{item_at}
+use Rattle.yt_log.specs.Inside.Counts.{segment_at, AreOrdered, AreJudged, Judges, Passes}
+use Rattle.yt_log.specs.Inside.Heads.{item_at}
 use Rattle.yt_log.proofs.Places.{has_place}
 use Rattle.yt_log.proofs.Plans.{good_item}
 use Rattle.yt_log.proofs.Counting.{ordered_segments}

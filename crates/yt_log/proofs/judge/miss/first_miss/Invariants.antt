@@ -1,4 +1,4 @@
-use Rattle.yt_log.specs.Counts.{AreJudged}
+use Rattle.yt_log.specs.Inside.Counts.{AreJudged}
 use Rattle.yt_log.proofs.Judged.{AreAhead}
 use Rattle.yt_log.proofs.judge.miss.first_miss.Given as goal
 

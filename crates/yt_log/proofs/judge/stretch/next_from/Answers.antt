@@ -1,5 +1,5 @@
 use Rattle.std.proofs.Common.{arith}
-use Rattle.yt_log.specs.Counts.{segment_at}
+use Rattle.yt_log.specs.Inside.Counts.{segment_at}
 use Rattle.yt_log.proofs.Reading.{next_read, next_kept}
 use Rattle.yt_log.proofs.judge.stretch.next_from.Goals.{else-next-segments-via-then-next-segments+else-segments-next, else-next-segments-via-else-next-segments}
 use Rattle.yt_log.proofs.judge.stretch.next_from.Goals as goal

@@ -1,7 +1,7 @@
 use Rattle.std.proofs.Common.{List, subst, sym}
 use Rattle.yt_log.specs.declared.job.Segment.{Segment}
-use Rattle.yt_log.specs.Counts.{segment_at}
-use Rattle.yt_log.specs.Following.{Reads}
+use Rattle.yt_log.specs.Inside.Counts.{segment_at}
+use Rattle.yt_log.specs.Inside.Following.{Reads}
 use Rattle.yt_log.proofs.Reading.{idle_to_end, idle_to_segment, job_to_end}
 use Rattle.yt_log.proofs.judge.stretch.stretch_from.Goals as goal
 

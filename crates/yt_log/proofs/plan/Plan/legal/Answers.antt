@@ -3,7 +3,7 @@ use Rattle.std.proofs.lemmas.Bool.{both_ways}
 use Rattle.std.proofs.lemmas.List.{drop_all}
 use Rattle.yt_log.specs.declared.plan.PlanItem.{PlanItem}
 use Rattle.yt_log.specs.Plan.{IsInOrder, IsLegalPlan}
-use Rattle.yt_log.specs.LastJobs.{AreLast, may_come}
+use Rattle.yt_log.specs.Inside.LastJobs.{AreLast, may_come}
 use Rattle.yt_log.proofs.PlanJudging.{IsJudged, judged_none, judged_all, judged_next, never_at, coming_number, before_more, no_item}
 use Rattle.yt_log.proofs.plan.Plan.legal.Goals as goal
 

@@ -1,5 +1,5 @@
 use Rattle.std.proofs.Common.{take, drop, reverse}
-use Rattle.yt_log.specs.LastJobs.{AreLast}
+use Rattle.yt_log.specs.Inside.LastJobs.{AreLast}
 use Rattle.yt_log.proofs.PlanJudging.{IsJudged}
 use Rattle.yt_log.proofs.plan.Plan.legal.Given as goal
 

@@ -1,7 +1,7 @@
 use Rattle.std.proofs.Common.{◌≡◌, ◌≤◌, true, reverse, ap, ◌∙◌, sym, subst}
 use Rattle.yt_log.specs.Plan.{IsLegalPlan, last_arrival}
-use Rattle.yt_log.specs.LastJobs.{AreLast, may_come}
-use Rattle.yt_log.specs.PlanReading.{PlanSoFar}
+use Rattle.yt_log.specs.Inside.LastJobs.{AreLast, may_come}
+use Rattle.yt_log.specs.Inside.PlanReading.{PlanSoFar}
 use Rattle.yt_log.proofs.PlanJudging.{coming_number}
 use Rattle.yt_log.proofs.PlanReads.{come_few, legal_with, reverse-push}
 use Rattle.yt_log.proofs.reader.Reader.add.Goals as goal

@@ -2,7 +2,7 @@ use Rattle.std.proofs.Common.{◌-◌, ◌+◌, ◌∷◌, [], ◌++◌, List, O
 use Rattle.yt_set.specs.declared.task.Task.{Task}
 use Rattle.yt_log.specs.declared.item_fault.ItemFault.{ItemFault}
 use Rattle.yt_log.specs.PlanText.{unless}
-use Rattle.yt_log.specs.PlanReading.{PlanSoFar}
+use Rattle.yt_log.specs.Inside.PlanReading.{PlanSoFar}
 use Rattle.yt_log.proofs.PlanReads.{item_answer, item_may, last_bounds}
 use Rattle.yt_log.proofs.reader.Reader.judge_item.Goals as goal
 

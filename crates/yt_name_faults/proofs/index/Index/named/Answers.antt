@@ -1,13 +1,13 @@
 use Rattle.std.proofs.Common.{slice_get, ap, sym, ◌∙◌}
-use Rattle.std.specs.Option.{option_and_then}
-use Rattle.yt_name_faults.specs.Parts.{trees}
+use Rattle.std.specs.Option.{option_and_then, option_map}
+use Rattle.yt_name_faults.specs.Parts.{placed_of, trees}
 use Rattle.yt_name_faults.specs.Paths.{placed_from, placed_named}
 use Rattle.yt_name_faults.proofs.index.Index.named.Goals as goal
 
-pub returns-in-None : goal.returns-in-None
+pub returns-in_err-n : goal.returns-in_err-n
 unfolding placed_named
-returns-in-None c = ap (option_and_then (slice_get (placed_from 0 (trees c.args.self.now)))) (sym c.in-None.is ∙ c.place.ensures)
+returns-in_err-n c = ap (option_map (λ p. placed_of p.now)) c.from_residual.ensures ∙ ap (option_and_then (slice_get (placed_from 0 (trees c.args.self.now)))) (sym c.in_err-n.was ∙ c.place.ensures)
 
-pub returns-in-Some : goal.returns-in-Some
+pub returns : goal.returns
 unfolding placed_named
-returns-in-Some c = c.part.ensures ∙ ap (option_and_then (slice_get (placed_from 0 (trees c.args.self.now)))) (sym c.in-Some.is ∙ c.place.ensures)
+returns c = c.part.ensures ∙ ap (option_and_then (slice_get (placed_from 0 (trees c.args.self.now)))) (sym c.in_ok-n.was ∙ c.place.ensures)

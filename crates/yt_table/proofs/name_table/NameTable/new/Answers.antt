@@ -2,7 +2,7 @@ use Rattle.std.proofs.Common.{◌≡◌, Some, unwrap_or, [], map, drop, ap, sym
 use Rattle.std.proofs.lemmas.Grind.{common_steps}
 use Rattle.std.proofs.lemmas.Map.Text.{hash_map_updates_str}
 use Rattle.yt_table.specs.Tables.{first_of}
-use Rattle.yt_table.specs.inner.Numbers.{number_in, or_later}
+use Rattle.yt_table.specs.Inside.Numbers.{number_in, or_later}
 use Rattle.yt_table.proofs.NumberLemmas.{declares, no_later, declares_next}
 use Rattle.yt_table.proofs.name_table.NameTable.new.Goals as goal
 

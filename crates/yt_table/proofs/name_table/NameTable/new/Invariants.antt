@@ -1,6 +1,6 @@
 use Rattle.std.proofs.Common.{◌≡◌, ℕ, List, map, drop}
 use Rattle.yt_table.specs.Tables.{first_of}
-use Rattle.yt_table.specs.inner.Numbers.{number_in, or_later}
+use Rattle.yt_table.specs.Inside.Numbers.{number_in, or_later}
 use Rattle.yt_table.proofs.name_table.NameTable.new.Given as goal
 
 -- the number of a name so far, or else in the rest, is that in all

@@ -1,0 +1,13 @@
+//! Tests of the top call (`yartos`): `set`, `play` and `replay`.
+//!
+//! This crate has nothing but tests, and no crate stands on it. It knows the top call and the walk over tables of rows (`yartos_rows`)
+//! alone. Its tests show what no clause says: that a call ends well where memory suffices, and that its answer is the one worked out by
+//! hand. A test is a table of rows, which are data, and one call that goes over them: no row is part of a proof.
+#![tactic(auto)]
+
+#[cfg(test)]
+mod plays;
+#[cfg(test)]
+mod replays;
+#[cfg(test)]
+mod sets;

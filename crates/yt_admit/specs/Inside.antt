@@ -1,0 +1,2 @@
+-- What the code judges of a tree.
+pub mod Judged

@@ -1,0 +1,2 @@
+-- The wires of a graph.
+pub mod Wiring

@@ -1,0 +1,2 @@
+-- How the code prints a schedule up to a tick.
+pub mod Cut

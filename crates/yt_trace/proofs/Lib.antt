@@ -1,0 +1,5 @@
+pub mod Lemmas
+mod Adding
+mod Judging
+mod LastTimes
+mod Reading

@@ -1,0 +1,2 @@
+-- How two lists of jobs are put together.
+pub mod Merging
