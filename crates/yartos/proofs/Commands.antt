@@ -20,8 +20,10 @@ use Rattle.yartos.specs.declared.words.Command as declared
 use Rattle.yartos.specs.Answer.{IsDueTo}
 use Rattle.yartos.specs.Causes.{CommandCause, command_verdict}
 use Rattle.yartos.specs.FileCauses.{FileCause, IsFileText, file_verdict, long_line, read, too_long}
-use Rattle.yartos.specs.Reads.{CannotRead, IsFirstLong, IsRead}
-use Rattle.yartos.specs.Words.{Command, check, command_found, files_of, form, judges, play, replay, run, set, stop, tasks}
+use Rattle.yartos.specs.Reads.{CannotRead, IsRead}
+use Rattle.yartos.specs.Words.{Command, check, files_of, form, judges, play, replay, run, set, stop, tasks}
+use Rattle.yartos.specs.Inside.Found.{command_found}
+use Rattle.yartos.specs.Inside.LongFiles.{IsFirstLong}
 use Rattle.yartos.proofs.FileLemmas.{file_due, file_held, long_due, not_over, one_file, read_held, some_file}
 
 -- what is due to the bytes of two files that were read is due to the files

@@ -4,3 +4,5 @@ pub mod FileCauses
 pub mod Causes
 pub mod Answer
 pub mod Laws
+-- How words and files are read.
+pub mod Inside

@@ -1,13 +1,9 @@
 -- The words of a command, and what they ask for.
-use Rattle.std.specs.Prelude.{ℕ, List, [], ◌∷◌, length, map, Bool, true, false, not, ◌&&◌, ◌==◌, nat_le, Option, None, Some, String, string_bytes, if◌then◌else◌, bytes_eq, codes}
+use Rattle.std.specs.Prelude.{ℕ, List, [], ◌∷◌, length, map, Bool, true, not, ◌&&◌, ◌==◌, nat_le, Option, None, Some, String, string_bytes, if◌then◌else◌, bytes_eq, codes}
 use Rattle.std.specs.declared.alloc.Global.{Global}
 use Rattle.yt_base.specs.declared.numbers.Decimal.{Decimal}
 use Rattle.yt_base.specs.declared.numbers.Decimal.TheVariants.{Other, Over, Value}
 use Rattle.yt_base.specs.Digits.{digits_of_text}
-use Rattle.yartos.specs.declared.words.Command as declared_command
-use Rattle.yartos.specs.declared.words.Command.TheVariants.{Form, Tasks, Check, Run, Stop, Set, Replay, Play}
-use Rattle.yartos.specs.declared.words.Request as declared
-use Rattle.yartos.specs.declared.words.Request.TheVariants.{Misuse, Demo, Judges}
 use Rattle.yartos.specs.declared.words.TheConstants.{MOST_DIGITS}
 
 -- the bytes of each word
@@ -97,20 +93,3 @@ abbrev pub IsNotBuilt : Request → Type 0
 IsNotBuilt misuse = ⊥
 IsNotBuilt (demo number) = Unit {0}
 IsNotBuilt (judges command) = ⊥
-
--- the command that the code finds, with the bytes of the words
-abbrev pub command_found : declared_command.Command → Command
-command_found (Form graph) = form graph.now
-command_found (Tasks graph) = tasks graph.now
-command_found (Check graph) = check graph.now
-command_found (Run graph trace) = run graph.now trace.now
-command_found (Stop graph trace tick) = stop graph.now trace.now tick
-command_found (Set named) = set named.now
-command_found (Replay named) = replay named.now
-command_found (Play named plan) = play named.now plan.now
-
--- the request that the code finds
-abbrev pub request_found : declared.Request → Request
-request_found Misuse = misuse
-request_found (Demo number) = demo number
-request_found (Judges command) = judges (command_found command)

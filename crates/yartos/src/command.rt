@@ -2,8 +2,10 @@
 ghost use Rattle.std.specs.Prelude.{◌≡◌, ◌⊎◌, ◌≤◌, IfErr, IfOk, IsErrOf};
 ghost use Rattle.yt_io.specs.Faults.{Rose};
 ghost use Rattle.yartos.specs.Answer.{IsDueTo};
-ghost use Rattle.yartos.specs.Reads.{CannotRead, IfLong, IsFirstLong};
-ghost use Rattle.yartos.specs.Words.{command_found, files_of, judges};
+ghost use Rattle.yartos.specs.Reads.{CannotRead};
+ghost use Rattle.yartos.specs.Words.{files_of, judges};
+ghost use Rattle.yartos.specs.Inside.Found.{command_found};
+ghost use Rattle.yartos.specs.Inside.LongFiles.{IfLong, IsFirstLong};
 
 use crate::files::{Unanswered, read_one, read_two};
 use crate::words::Command;

@@ -3,7 +3,8 @@ ghost use Rattle.std.specs.Prelude.{◌≡◌, ◌⊎◌, ◌≤◌, [], ◌∷�
 ghost use Rattle.yt_io.specs.Faults.{Rose};
 ghost use Rattle.yt_io.specs.Shelf.{IsMissing};
 ghost use Rattle.yartos.specs.declared.files.Unanswered.TheVariants.{NoMemory};
-ghost use Rattle.yartos.specs.Reads.{CannotRead, IfLong, IsFirstLong, IsRead, IsTooLong};
+ghost use Rattle.yartos.specs.Reads.{CannotRead, IsRead, IsTooLong};
+ghost use Rattle.yartos.specs.Inside.LongFiles.{IfLong, IsFirstLong};
 
 use std::alloc::{AllocError, Global};
 use yt_base::MOST_TEXT_BYTES;

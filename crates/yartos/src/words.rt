@@ -1,6 +1,7 @@
 //! The forms of the words.
 ghost use Rattle.std.specs.Prelude.{◌≡◌, [], ◌∷◌};
-ghost use Rattle.yartos.specs.Words.{count_of, demos, names_file, request_found, request_of, texts};
+ghost use Rattle.yartos.specs.Words.{count_of, demos, names_file, request_of, texts};
+ghost use Rattle.yartos.specs.Inside.Found.{request_found};
 
 use yt_base::{Decimal, digits};
 

@@ -8,7 +8,7 @@ use Rattle.yt_graph.specs.Picture.{GraphTree, graph_tree}
 use Rattle.yt_set.specs.declared.task.Task.{Task}
 use Rattle.yt_set.specs.Tasks.{Fits, hyperperiod}
 use Rattle.yt_fits.specs.declared.unfit.Unfit.{Unfit}
-use Rattle.yt_fits.specs.Loads.{most_multiple}
+use Rattle.yt_fits.specs.Loads.{hyperperiod_limit}
 use Rattle.yt_fits.specs.Unfits.{IsReason}
 use Rattle.yt_rates.specs.Acceptance.{Parts, IsAccepted}
 use Rattle.yt_rates.specs.Tables.{task_of, tasks_of}
@@ -199,7 +199,7 @@ graph_unfit {E} {text} {Asked} verdict_of IsText items graph why (Ok a) is reaso
 
 pub graph_fits : {text : List ℕ} {Asked : List ItemTree → GraphTree → Type 0} (verdict_of : (items : List ItemTree) (graph : GraphTree) → Asked items graph → Verdict)
     (IsText : (items : List ItemTree) (graph : GraphTree) → Asked items graph → List ℕ → Type 0) (items : List ItemTree) (graph : GraphTree) (v : Verdict) (told : List ℕ) → IsRated text items graph →
-    hyperperiod (tasks_of graph) ≤ most_multiple → Fits (tasks_of graph) → IsDue (verdict_of items graph) (IsText items graph) v told →
+    hyperperiod (tasks_of graph) ≤ hyperperiod_limit (tasks_of graph) → Fits (tasks_of graph) → IsDue (verdict_of items graph) (IsText items graph) v told →
     IsDue (graph_verdict {text = text} {Asked = λ items g. LoadCause (tasks_of g) (Asked items g)} (λ items g why. load_verdict (verdict_of items g) why))
     (IsGraphText {text = text} {Asked = λ items g. LoadCause (tasks_of g) (Asked items g)} (λ items g why told. IsLoadText (codes "graph") (labels_of g) (IsText items g) why told)) v told
 graph_fits {text} {Asked} verdict_of IsText items graph v told is narrow room due =
@@ -207,7 +207,7 @@ graph_fits {text} {Asked} verdict_of IsText items graph v told is narrow room du
     (λ items g why told. IsLoadText (codes "graph") (labels_of g) (IsText items g) why told) items graph v told is (record { cause = fits narrow room due.cause; verdict = due.verdict; told = due.told })
 
 -- the tasks of an accepted graph fit, with a hyperperiod in its limit
-pub accepted_fits : (parts : Parts) → IsAccepted parts → (hyperperiod (tasks_of (graph_tree parts.graph)) ≤ most_multiple) × Fits (tasks_of (graph_tree parts.graph))
+pub accepted_fits : (parts : Parts) → IsAccepted parts → (hyperperiod (tasks_of (graph_tree parts.graph)) ≤ hyperperiod_limit (tasks_of (graph_tree parts.graph))) × Fits (tasks_of (graph_tree parts.graph))
 accepted_fits parts is =
     let fitting = is.fitting in
-    (subst (λ (ts : List Task). hyperperiod ts ≤ most_multiple) fitting.set fitting.narrow, subst (λ (ts : List Task). Fits ts) fitting.set fitting.fits)
+    (subst (λ (ts : List Task). hyperperiod ts ≤ hyperperiod_limit ts) fitting.set fitting.narrow, subst (λ (ts : List Task). Fits ts) fitting.set fitting.fits)

@@ -1,12 +1,10 @@
 //! What decides about a tree that calls no operator: its names, its costs, its rates, or its tasks.
 ghost use Rattle.std.specs.Prelude.{◌≡◌, ◌≢◌, [], IfOk};
-ghost use Rattle.std.specs.List.{All};
 ghost use Rattle.yt_graph.specs.AstPicture.{ast_tree};
 ghost use Rattle.yt_graph.specs.AstWellFormed.{IsWritable};
 ghost use Rattle.yt_graph.specs.Picture.{graph_tree};
 ghost use Rattle.yt_graph.specs.WellFormed.{IsWellFormed};
 ghost use Rattle.yt_cost.specs.Codes.{AreCodesOf};
-ghost use Rattle.yt_cost.specs.Faults.{IsWithinLimits};
 ghost use Rattle.yt_rates.specs.Faults.{rate_fault};
 ghost use Rattle.yt_admit.specs.Inside.Judged.{IsKept, stage_found};
 ghost use Rattle.yt_admit.specs.Stages.{behind_rates, stage_of};
@@ -52,11 +50,10 @@ pub(crate) fn judge(alloc: Global, ast: &Ast) -> Result<Judged, AllocError>
 }
 
 /// What decides about a graph whose names and costs are in order. The caller shows that it is well formed, and that the codes are
-/// the graph's, and within their limits. `Err` comes where memory ran out.
+/// the graph's. `Err` comes where memory ran out.
 fn rated(alloc: Global, graph: Graph, codes: Codes) -> Result<Judged, AllocError>
     requires well_formed { IsWellFormed (graph_tree graph) }
     requires codes { AreCodesOf (graph_tree graph) codes }
-    requires limits { All IsWithinLimits (graph_tree graph).ports }
     ensures stage { IfOk result (λ judged. stage_found judged ≡ behind_rates (graph_tree graph) (rate_fault (graph_tree graph))) }
     ensures kept { IfOk result IsKept }
 {

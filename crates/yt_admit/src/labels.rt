@@ -1,13 +1,12 @@
 //! The names of a graph's ports and outs in texts.
-ghost use Rattle.std.specs.Prelude.{◌≡◌, ◌∷◌, ◌++◌, IfOk, OnOk, option_copied};
+ghost use Rattle.std.specs.Prelude.{◌≡◌, ◌∷◌, ◌++◌, IfOk, OnOk};
 ghost use Rattle.yt_graph.specs.Labels.{label_of, labels_of, out_name, port_label};
 ghost use Rattle.yt_graph.specs.Picture.{graph_tree, port_tree};
-ghost use Rattle.yt_list.specs.Numbered.{numbered};
 
 use std::alloc::{AllocError, Global};
 use yt_base::Text;
 use yt_graph::{Graph, Port};
-use yt_list::{Name, Names};
+use yt_list::{Name, Names, numbered};
 
 /// The names of a graph's ports, in order: each its process's, a dot, and its own. `Err` comes where memory ran out.
 pub fn graph_labels(alloc: Global, graph: &Graph) -> Result<Names, AllocError>
@@ -32,7 +31,7 @@ fn label(alloc: Global, port: &Port) -> Result<Name, AllocError>
 
 /// Adds the name of the port of a number, from 1: its process's, a dot, and its own. Where there is no such port, both are
 /// empty. `Err` comes where memory ran out.
-pub fn put_label(text: &mut Text, graph: &Graph, number: u32) -> Result<(), AllocError>
+pub(crate) fn put_label(text: &mut Text, graph: &Graph, number: u32) -> Result<(), AllocError>
     ensures { OnOk result (text.new ≡ text.old ++ port_label (graph_tree graph.now) number) }
 {
     let (process, port) = names_of_port(graph, number);
@@ -62,14 +61,4 @@ pub(crate) fn name_of_out(graph: &Graph, port: u32, out: u32) -> &[u8]
         },
         None => b"",
     }
-}
-
-/// The item of a number, from 1; `None` exactly where there is no such item.
-fn numbered<T>(items: &[T], number: u32) -> Option<&T>
-    ensures { option_copied result ≡ numbered items.now number }
-{
-    if number == 0 {
-        return None;
-    }
-    items.get(number as usize - 1)
 }

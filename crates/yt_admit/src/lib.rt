@@ -18,6 +18,6 @@ mod reading;
 mod unfit;
 
 pub use admission::{Admission, admit};
-pub use labels::{graph_labels, put_label};
+pub use labels::graph_labels;
 pub use reading::{Reading, read_graph};
 pub use unfit::unfit_graph_answer;

@@ -2,7 +2,8 @@
 use Rattle.std.proofs.Common.{ℕ, ◌≡◌, ◌+◌, ◌-◌, ◌*◌, ◌≤◌, ◌^◌, List, [], ◌∷◌, Option, None, Some, arith}
 use Rattle.std.specs.Prelude.{MatchOption, option_and_then}
 use Rattle.std.proofs.lemmas.Grind.{common_steps}
-use Rattle.yt_base.specs.Digits.{value_after, then_byte}
+use Rattle.yt_base.specs.Digits.{value_after}
+use Rattle.yt_base.specs.Inside.NextDigit.{then_byte}
 
 -- more digits make it no less
 pub value_after-ge : (n : ℕ) (ds : List ℕ) → n ≤ value_after n ds

@@ -30,7 +30,3 @@ signed_of_text (c ∷ cs) = if c == 45 then negative cs else positive (c ∷ cs)
 
     positive : List ℕ → Option ℤ
     positive ds = if is_digits ds && nat_lt (value_of ds) (2 ^ 63) then Some (pos (value_of ds)) else None
-
--- the value with one more digit, where it fits
-abbrev pub then_byte : ℕ → ℕ → Option ℕ
-then_byte b v = if nat_lt (10 * v + (b - 48)) (2 ^ 64) then Some (10 * v + (b - 48)) else None

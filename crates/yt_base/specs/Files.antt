@@ -35,8 +35,3 @@ IsLineError judged line.Memory = Unit {0}
 abbrev pub IsFileError : {S F : Type 0} → Result S (ℕ × F) → FileError F → Type 0
 IsFileError read (file.Line number fault) = read ≡ Err (number, fault)
 IsFileError read file.Memory = Unit {0}
-
--- the error of a line is that of the file
-abbrev pub error_at : {F : Type 0} → ℕ → LineError F → FileError F
-error_at number (line.Fault fault) = file.Line number fault
-error_at number line.Memory = file.Memory

@@ -1,7 +1,7 @@
 //! Why a file of lines isn't read.
 ghost use Rattle.std.specs.Prelude.{◌≡◌};
 ghost use Rattle.yt_base.specs.declared.file_error.LineError.TheVariants.{Memory};
-ghost use Rattle.yt_base.specs.Files.{error_at};
+ghost use Rattle.yt_base.specs.Inside.LineErrors.{error_at};
 
 use std::alloc::AllocError;
 

@@ -1,6 +1,7 @@
 //! Numbers in decimal digits.
 ghost use Rattle.std.specs.Prelude.{◌≡◌, ◌^◌, ◌<◌, ◌≤◌, ◌↔◌, ◌+◌, ◌-◌, option_and_then};
-ghost use Rattle.yt_base.specs.Digits.{digits_of_text, signed_of_text, then_byte};
+ghost use Rattle.yt_base.specs.Digits.{digits_of_text, signed_of_text};
+ghost use Rattle.yt_base.specs.Inside.NextDigit.{then_byte};
 
 /// What a text says as a number without a sign. Leading zeros are digits like others.
 #[derive(Clone, Copy, Debug, PartialEq, Eq)]

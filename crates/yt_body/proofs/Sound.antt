@@ -33,11 +33,11 @@ pub of_some : {X : Type 0} (P : X → Type 0) (o : Option X) → IsSomeAnd o P �
 of_some P None h = absurd h
 of_some P (Some x) h = (x, refl, h)
 
-all_there : {X : Type 0} (P : X → Type 0) (xs : List X) (k : ℕ) (x : X) → All P xs → slice_get xs k ≡ Some x → P x
+pub all_there : {X : Type 0} (P : X → Type 0) (xs : List X) (k : ℕ) (x : X) → All P xs → slice_get xs k ≡ Some x → P x
 all_there P xs k x all there = subst P (get_or_from_slice_get xs k x x there) (All-get_or P xs k x (slice_get_within xs k x there) all)
 
 -- what is fed by an out has it for its feed
-fed_is : (port out : ℕ) (f : Feed) → is_fed port out f ≡ true → f ≡ Out port out
+pub fed_is : (port out : ℕ) (f : Feed) → is_fed port out f ≡ true → f ≡ Out port out
 fed_is port out (feed.TheVariants.Input input) h = cc
 fed_is port out (feed.TheVariants.Out p o) h =
     let parts = and_parts (eqb p port) (eqb o out) h in
@@ -112,7 +112,7 @@ module _ (g : GraphTree) (well : IsWellFormed g) (rates : All (IsWithinRates g) 
             (omega arith, omega arith);
       }
 
-  wire_from : (k : ℕ) → k < length (wires_of g) → IsWireFrom g 1 g.ports (wire_at (wires_of g) k)
+  pub wire_from : (k : ℕ) → k < length (wires_of g) → IsWireFrom g 1 g.ports (wire_at (wires_of g) k)
   wire_from k lt = from_ports g 1 g.ports k (wire_at (wires_of g) k) (slice_get-get_or (wires_of g) k no_wire lt)
 
   each_wire : (k : ℕ) → k < length (wires_of g) → IsWire (widths_of g) (wire_at (wires_of g) k)
@@ -132,7 +132,7 @@ module _ (g : GraphTree) (well : IsWellFormed g) (rates : All (IsWithinRates g) 
       (in_order g 1 g.ports j k a b lt (slice_get-get_or (wires_of g) j no_wire (omega arith)) (slice_get-get_or (wires_of g) k no_wire inside))
 
   -- a target is fed by the out that its feed says
-  port_source : (k m : ℕ) → k < length (wires_of g) → feeds (wire_at (wires_of g) k) (target.TheVariants.Port m) ≡ true →
+  pub port_source : (k m : ℕ) → k < length (wires_of g) → feeds (wire_at (wires_of g) k) (target.TheVariants.Port m) ≡ true →
       (i : ℕ) × (q : PortTree) × (m ≡ suc i) × (slice_get g.ports i ≡ Some q) × (q.feed ≡ Out (wire_at (wires_of g) k).port (wire_at (wires_of g) k).out)
   port_source k m lt h =
       let w = wire_at (wires_of g) k in
@@ -146,7 +146,7 @@ module _ (g : GraphTree) (well : IsWellFormed g) (rates : All (IsWithinRates g) 
       let number = f.3 in
       (f.0, f.1, omega arith, f.2, fed_is (1 + r.place) (suc r.at) f.1.feed f.4 ∙ sym (ap₂ (λ (a b : ℕ). Out a b) port out))
 
-  output_source : (k m : ℕ) → k < length (wires_of g) → feeds (wire_at (wires_of g) k) (target.TheVariants.Output m) ≡ true →
+  pub output_source : (k m : ℕ) → k < length (wires_of g) → feeds (wire_at (wires_of g) k) (target.TheVariants.Output m) ≡ true →
       (i : ℕ) × (o : Output) × (m ≡ suc i) × (slice_get g.outputs i ≡ Some o) × (o.port ≡ (wire_at (wires_of g) k).port) × (o.out ≡ (wire_at (wires_of g) k).out)
   output_source k m lt h =
       let w = wire_at (wires_of g) k in

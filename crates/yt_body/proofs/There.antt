@@ -18,7 +18,8 @@ use Rattle.yt_rates.specs.declared.stream.Stream.{Stream}
 use Rattle.yt_rates.specs.Rates.{gap_of, passed_on, period_of, stream_of}
 use Rattle.yt_rates.specs.Tables.{PortRates, AreRatesOf, ForRates}
 use Rattle.yt_serial.proofs.Lemmas.{numbered_within}
-use Rattle.yt_body.specs.Wiring.{IsOutOf, IsWireOf, outputs_fed, ports_fed, wire_of, wires_of_outs, wires_of_ports}
+use Rattle.yt_body.specs.Wiring.{outputs_fed, ports_fed, wire_of, wires_of_outs, wires_of_ports}
+use Rattle.yt_body.specs.Inside.OneWire.{IsOutOf, IsWireOf}
 use Rattle.yt_body.proofs.Numbers.{outs_more, outs_over, ports_more}
 use Rattle.yt_body.proofs.Sound.{of_some}
 

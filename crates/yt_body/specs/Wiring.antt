@@ -1,12 +1,11 @@
 -- The wires of a graph: each out of each port, with all that it feeds.
-use Rattle.std.specs.Prelude.{◌≡◌, ⊤, All, Some, IsSomeAnd, ℕ, ◌+◌, ◌==◌, ◌&&◌, Bool, false, List, [], ◌∷◌, ◌++◌, map, if◌then◌else◌}
+use Rattle.std.specs.Prelude.{All, ℕ, ◌+◌, ◌==◌, ◌&&◌, Bool, false, List, [], ◌∷◌, ◌++◌, map, if◌then◌else◌}
 use Rattle.yt_graph.specs.Cost.{greatest_sends}
 use Rattle.yt_graph.specs.declared.graph.Output.{Output}
 use Rattle.yt_graph.specs.declared.port.Feed as feed
 use Rattle.yt_graph.specs.declared.port.Feed.{Feed}
 use Rattle.yt_graph.specs.declared.port.OutHead.{OutHead}
 use Rattle.yt_graph.specs.Picture.{GraphTree, PortTree}
-use Rattle.yt_list.specs.Numbered.{numbered}
 use Rattle.yt_rates.specs.Rates.{gap_of, period_of}
 use Rattle.yt_chan.specs.declared.wire.Wire.{Wire}
 use Rattle.yt_chan.specs.Wires.{AreWires}
@@ -67,15 +66,6 @@ wires_of g = wires_of_ports g 1 g.ports
 -- how many numbers the messages of each port have
 abbrev pub widths_of : GraphTree → List ℕ
 widths_of g = map (λ p. p.params) g.ports
-
--- an out of a port is there, both by their numbers from 1
-abbrev pub IsOutOf : GraphTree → ℕ → ℕ → Type 0
-IsOutOf g port out = IsSomeAnd (numbered g.ports port) (λ p. IsSomeAnd (numbered p.outs out) (λ head. ⊤))
-
--- a wire is that of an out of a port
-abbrev pub IsWireOf : GraphTree → ℕ → ℕ → Wire → Type 0
-IsWireOf g port out wire =
-    (p : PortTree) → numbered g.ports port ≡ Some p → (head : OutHead) → numbered p.outs out ≡ Some head → wire ≡ wire_of g port p out head
 
 -- the wires of a well-formed graph whose rates and costs are within their limits are sound
 abbrev pub WiresAreSound : Type 0

@@ -3,7 +3,8 @@ ghost use Rattle.std.specs.Prelude.{◌≡◌, ◌≤◌, [], ◌∷◌, ◌++�
 ghost use Rattle.yt_graph.specs.Limits.{most_outputs, most_ports};
 ghost use Rattle.yt_graph.specs.Picture.{graph_tree, port_tree, PortTree};
 ghost use Rattle.yt_list.specs.Numbered.{numbered};
-ghost use Rattle.yt_body.specs.Wiring.{IsOutOf, IsWireOf, is_fed, outputs_fed, ports_fed, wires_of, wires_of_outs};
+ghost use Rattle.yt_body.specs.Wiring.{is_fed, outputs_fed, ports_fed, wires_of, wires_of_outs};
+ghost use Rattle.yt_body.specs.Inside.OneWire.{IsOutOf, IsWireOf};
 
 use std::alloc::{AllocError, Global};
 use yt_chan::{Nums, Wire};

@@ -1,23 +1,15 @@
 -- The lines of tasks, one after the other.
-use Rattle.std.proofs.Common.{◌≡◌, ℕ, ◌+◌, ◌-◌, List, [], ◌∷◌, ◌++◌, drop, slice_get, Some, sym, ap, subst, ◌∙◌, append_assoc, arith}
-use Rattle.std.proofs.lemmas.Option.{get_or_from_slice_get}
+use Rattle.std.proofs.Common.{◌≡◌, ℕ, ◌+◌, List, [], ◌∷◌, ◌++◌, drop, slice_get, Some, sym, ap, ◌∙◌, append_assoc}
 use Rattle.yt_set.specs.declared.task.Task.{Task}
 use Rattle.yt_set.specs.NamedTasks.{NamedTasks}
 use Rattle.yt_set.specs.Printed.{task_line}
-use Rattle.yt_list.specs.Numbered.{numbered_or}
-use Rattle.yt_list.proofs.Lemmas.{drop_at, numbered_or_next}
+use Rattle.yt_list.specs.Numbered.{numbered, numbered_or}
+use Rattle.yt_list.proofs.Lemmas.{drop_at, numbered_next}
 use Rattle.yt_cmd_check.specs.TaskLines.{task_lines}
 
-less_one : (n : ℕ) → n + 1 - 1 ≡ n
-less_one n = omega arith
-
 -- what has a number has the place before it
-pub placed : {X : Type 0} (xs : List X) (n : ℕ) (x : X) → slice_get xs (n + 1 - 1) ≡ Some x → slice_get xs n ≡ Some x
-placed xs n x at = subst (λ k. slice_get xs k ≡ Some x) (less_one n) at
-
--- the name at a place is that of the number behind it
-pub named_at : (names : List (List ℕ)) (n : ℕ) (name : List ℕ) → slice_get names n ≡ Some name → name ≡ numbered_or names (n + 1) []
-named_at names n name at = sym (numbered_or_next names n [] ∙ get_or_from_slice_get names n name [] at)
+pub placed : {X : Type 0} (xs : List X) (n : ℕ) (x : X) → numbered xs (n + 1) ≡ Some x → slice_get xs n ≡ Some x
+placed xs n x at = sym (numbered_next xs n) ∙ at
 
 -- one more line of tasks
 pub task_more : (set : NamedTasks) (n : ℕ) (tasks : List Task) (t : Task) (line text more : List ℕ) → slice_get tasks n ≡ Some t →

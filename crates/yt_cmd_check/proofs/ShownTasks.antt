@@ -1,7 +1,8 @@
 -- What can be printed of the tasks of a well-formed graph: their names and those of their resources are short, and there.
-use Rattle.std.proofs.Common.{◌≡◌, ℕ, zero, suc, ◌+◌, ◌-◌, ◌<◌, ◌≤◌, true, false, Bool, List, [], ◌∷◌, length, length-append, get_or, slice_get, Some, Option, refl, sym, ap, subst, ◌∙◌, not, nat_le, arith}
+use Rattle.std.proofs.Common.{◌≡◌, ℕ, zero, suc, ◌+◌, ◌<◌, ◌≤◌, true, false, Bool, List, [], ◌∷◌, length, length-append, get_or, slice_get, None, Some, Option, refl, sym, ap, subst, ◌∙◌, not, nat_le, arith}
 use Rattle.std.specs.Prelude.{IsTrue, ◌&&◌, ◌↔◌}
 use Rattle.std.specs.List.{list_all}
+use Rattle.std.specs.Option.{unwrap_or}
 use Rattle.std.proofs.lemmas.Bool.{and_parts, leb-true}
 use Rattle.std.proofs.lemmas.List.{length-map}
 use Rattle.std.proofs.lemmas.List.Elements.{All-get_or}
@@ -14,10 +15,6 @@ use Rattle.yt_graph.specs.Reserved.{is_reserved}
 use Rattle.yt_graph.specs.WellFormed.{IsWellFormed, IsFineGroup, IsFinePort, block_uses_var}
 use Rattle.yt_rates.specs.Tables.{task_of, tasks_of}
 use Rattle.yt_set.specs.declared.task.Task.{Task}
-
--- there are as many names as tasks
-pub same_count : (g : GraphTree) → length (labels_of g) ≡ length (tasks_of g)
-same_count g = length-map g.ports label_of ∙ sym (length-map g.ports (task_of g))
 
 -- a name has from 1 to 32 bytes
 short_name : (w : List ℕ) → IsTrue (is_name w) → length w ≤ 32
@@ -66,9 +63,8 @@ resource_there g n t fine at =
     let group = within_groups g p (block_uses_var p.body) port.11 in
     subst (λ r. r ≤ length g.groups) (task_at g n there t at) group
 
--- its name is short enough for a line
-pub label_short : (g : GraphTree) (n : ℕ) (label : List ℕ) → IsWellFormed g → slice_get (labels_of g) n ≡ Some label → length label ≤ 65
-label_short g n label fine at =
+label_at_short : (g : GraphTree) (n : ℕ) (label : List ℕ) → IsWellFormed g → slice_get (labels_of g) n ≡ Some label → length label ≤ 65
+label_at_short g n label fine at =
     let below = slice_get_within (labels_of g) n label at in
     let there : n < length g.ports = omega (arith, length-map g.ports label_of) in
     let p = port_at g n in
@@ -80,6 +76,15 @@ label_short g n label fine at =
     let name = short_name p.name port.1 in
     let long : length (label_of p) ≡ length p.process + suc (length p.name) = length-append p.process (46 ∷ p.name) in
     subst (λ l. length l ≤ 65) is (omega (arith, long, process, name))
+
+-- a task's name is short enough for a line, and so is none
+pub label_short : (g : GraphTree) (number : ℕ) → IsWellFormed g → length (numbered_or (labels_of g) number []) ≤ 65
+label_short g zero fine = omega arith
+label_short g (suc n) fine = by (slice_get (labels_of g) n) refl
+  where
+    by : (o : Option (List ℕ)) → slice_get (labels_of g) n ≡ o → length (unwrap_or (slice_get (labels_of g) n) []) ≤ 65
+    by None e = subst (λ (o : Option (List ℕ)). length (unwrap_or o []) ≤ 65) (sym e) (omega arith)
+    by (Some label) e = subst (λ (o : Option (List ℕ)). length (unwrap_or o []) ≤ 65) (sym e) (label_at_short g n label fine e)
 
 -- so is its resource's, which is empty where there is none
 

@@ -9,7 +9,9 @@ ghost use Rattle.yt_cmd_check.specs.TaskLines.{named_tasks, tasks_text};
 use std::alloc::{AllocError, Global};
 use yt_admit::graph_labels;
 use yt_base::{Line, Text};
+use yt_fitting::task_label;
 use yt_graph::Graph;
+use yt_list::numbered;
 use yt_set::{TaskSet, put_task};
 
 /// A line for each task of a graph, whose tasks these are.
@@ -25,7 +27,7 @@ pub(crate) fn tasks_text(alloc: Global, graph: &Graph, set: &TaskSet) -> Result<
         let mut line = Line::new();
         put_task(
             &mut line,
-            labels.at(n as usize).as_slice(),
+            task_label(labels.as_slice(), n + 1),
             task,
             group_name(graph, task.resource),
         );
@@ -39,10 +41,7 @@ pub(crate) fn tasks_text(alloc: Global, graph: &Graph, set: &TaskSet) -> Result<
 fn group_name(graph: &Graph, group: u32) -> &[u8]
     ensures { result.now ≡ numbered_or (graph_tree graph.now).groups group [] }
 {
-    if group == 0 {
-        return b"";
-    }
-    match graph.groups.as_slice().get(group as usize - 1) {
+    match numbered(graph.groups.as_slice(), group) {
         Some(name) => name.as_slice(),
         None => b"",
     }

@@ -1,13 +1,14 @@
 -- The line of a fault of a plan's text.
 use Rattle.std.specs.Prelude.{◌≡◌, ℕ, List, [], ◌∷◌, ◌++◌, codes}
 use Rattle.std.specs.Fmt.{decimal}
+use Rattle.yt_fitting.specs.declared.kind.FileKind.TheVariants.{Plan}
 use Rattle.yt_fitting.specs.FaultLines.{fault_line}
 use Rattle.yt_log.specs.declared.read.PlanFault.{PlanFault}
 use Rattle.yt_log.specs.declared.read.PlanFault.TheVariants.{Form, Unknown, Cost, Late, Order, Soon, Many, Memory}
 
 -- `plan LINE ..`, with what is wrong with the line
 abbrev pub plan_line : ℕ → List ℕ → List ℕ
-plan_line number end = fault_line (codes "plan") number end
+plan_line number end = fault_line Plan number end
 
 -- the text is the line of a fault of a plan; want of memory has none
 abbrev pub IsPlanLine : List ℕ → PlanFault → Type 0

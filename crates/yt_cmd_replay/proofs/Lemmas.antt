@@ -1,13 +1,11 @@
 -- Two causes of one set's replay have one verdict, and there always is a cause.
-use Rattle.std.proofs.Common.{◌≡◌, ℕ, List, Some, refl, sym, subst}
+use Rattle.std.proofs.Common.{◌≡◌, ℕ, List, Some, refl, subst}
 use Rattle.yt_fits.specs.declared.unfit.Unfit.{Unfit}
 use Rattle.yt_fits.specs.declared.unfit.Unfit.TheVariants.{Hyperperiod, Overload, Interval}
 use Rattle.yt_fits.specs.Unfits.{IsReason}
-use Rattle.yt_fits.specs.Loads.{most_multiple}
 use Rattle.yt_fitting.specs.Loads as loads
 use Rattle.yt_fitting.proofs.Lemmas.{no_reason, one_set, some_load, some_set}
 use Rattle.yt_set.specs.NamedTasks.{NamedTasks}
-use Rattle.yt_set.specs.Tasks.{hyperperiod}
 use Rattle.yt_witness.specs.declared.pattern.Pattern.{Pattern}
 use Rattle.yt_witness.specs.declared.pattern.Pattern.TheVariants.{All, Blocker}
 use Rattle.yt_witness.specs.Witnesses.{pattern_of}

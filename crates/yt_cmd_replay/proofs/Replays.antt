@@ -1,9 +1,7 @@
 -- What is due to the replay of a set.
-use Rattle.std.proofs.Common.{◌≡◌, ℕ, List, Some, refl, sym, ap, subst, ◌∙◌}
+use Rattle.std.proofs.Common.{◌≡◌, List, Some, subst}
 use Rattle.std.specs.Prelude.{Result, Ok, Err, IfOk, codes}
 use Rattle.yt_answer.specs.declared.answer.Answer.{Answer}
-use Rattle.yt_answer.specs.declared.verdict.Verdict.{Verdict}
-use Rattle.yt_answer.specs.declared.verdict.Verdict.TheVariants.{Missed}
 use Rattle.yt_answer.specs.Due.{IsDue}
 use Rattle.yt_fits.specs.declared.unfit.Unfit.{Unfit}
 use Rattle.yt_fits.specs.declared.unfit.Unfit.TheVariants.{Hyperperiod, Overload, Interval}

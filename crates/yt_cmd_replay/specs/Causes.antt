@@ -4,7 +4,7 @@ use Rattle.yt_answer.specs.declared.verdict.Verdict.{Verdict}
 use Rattle.yt_answer.specs.declared.verdict.Verdict.TheVariants.{Done, Graph, Long, Missed}
 use Rattle.yt_fits.specs.declared.unfit.Unfit.{Unfit}
 use Rattle.yt_fits.specs.declared.unfit.Unfit.TheVariants.{Hyperperiod}
-use Rattle.yt_fits.specs.Loads.{most_multiple}
+use Rattle.yt_fits.specs.Loads.{hyperperiod_limit}
 use Rattle.yt_fits.specs.Unfits.{IsReason}
 use Rattle.yt_fitting.specs.Sets.{IsSetText, SetCause, set_verdict}
 use Rattle.yt_fitting.specs.TaskText.{accepted_text, hyperperiod_line}
@@ -40,7 +40,7 @@ IsPatternText {set} {pattern} (played short) text = ShowsReplay set pattern text
 -- why one on a set that is read comes: its hyperperiod is too great; its tasks fit; or they don't, which this pattern shows
 pub data ReplayedCause (set : NamedTasks) : Type 0 where
   too_wide : (task : ℕ) → IsReason set.tasks (Hyperperiod task) → ReplayedCause set
-  fits : hyperperiod set.tasks ≤ most_multiple → Fits set.tasks → ReplayedCause set
+  fits : hyperperiod set.tasks ≤ hyperperiod_limit set.tasks → Fits set.tasks → ReplayedCause set
   unfit : (why : Unfit) → IsReason set.tasks why → (pattern : Pattern) → pattern_of why ≡ Some pattern → PatternCause set pattern → ReplayedCause set
 
 -- the verdict

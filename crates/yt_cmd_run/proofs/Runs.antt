@@ -11,19 +11,19 @@ use Rattle.yt_answer.specs.declared.verdict.Verdict.TheVariants.{Done, NotYet, T
 use Rattle.yt_answer.specs.Due.{IsDue, not_yet_line}
 use Rattle.yt_answer.proofs.Lemmas.{due_result}
 use Rattle.std.specs.Int.{◌∣◌}
-use Rattle.std.specs.List.{All, list_all}
+use Rattle.std.specs.List.{list_all}
 use Rattle.std.specs.Option.{option_map, unwrap_or}
 use Rattle.yt_graph.specs.declared.graph.Input.{Input}
 use Rattle.yt_graph.specs.Names.{begins_as_word, is_name, is_word_byte}
 use Rattle.yt_graph.specs.AstPicture.{ItemTree}
 use Rattle.yt_graph.specs.Picture.{GraphTree}
 use Rattle.yt_graph.specs.Reserved.{is_reserved}
-use Rattle.yt_graph.specs.WellFormed.{IsFineInput, IsFineOutput, IsFinePort, IsWellFormed}
+use Rattle.yt_graph.specs.WellFormed.{IsFineOutput, IsFinePort, IsWellFormed}
 use Rattle.yt_rates.specs.Rates.{input_period}
 use Rattle.yt_rates.specs.Tables.{task_of, tasks_of}
 use Rattle.yt_run.specs.First.{First, graph_of, port_of, FitsFirst, IsFirstGraph, IsInRange, the_period}
 use Rattle.yt_run.specs.Readable.{is_not, stays_in_word, HasReadableNames}
-use Rattle.yt_serial.specs.declared.trace.Message.{Message}
+use Rattle.yt_trace.specs.declared.message.Message.{Message}
 use Rattle.yt_run.proofs.Lemmas.{HasReadableNames-first, list_all-weaker}
 use Rattle.yt_set.specs.declared.task.Task.{Task}
 use Rattle.yt_set.specs.Tasks.{FitsLoad, hyperperiod, load}

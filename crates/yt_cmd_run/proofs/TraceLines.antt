@@ -9,6 +9,7 @@ use Rattle.std.proofs.lemmas.Bool.{and_parts}
 use Rattle.yt_base.proofs.Lemmas.{decimal_passes, signed_decimal_passes}
 use Rattle.yt_graph.specs.Names.{is_name, begins_as_word, is_word_byte}
 use Rattle.yt_graph.specs.Reserved.{is_reserved}
+use Rattle.yt_trace.specs.Limits.{most_time}
 use Rattle.yt_cmd_run.specs.Inside.Split.{lacks, IsSplit}
 use Rattle.yt_cmd_run.specs.TraceText.{message_line}
 use Rattle.yt_cmd_run.proofs.TraceSplits.{split_is}
@@ -40,7 +41,7 @@ lacks_name byte name below named =
     lacks_word byte name below (and_parts (list_all is_word_byte name) (nat_le (length name) 32 && not (is_reserved name)) behind.1).0
 
 -- what stands before and behind the first space of a message's line
-pub first_space : (input line front rest : List ℕ) (time : ℕ) (value : ℤ) → IsSplit 32 line front rest → time ≤ 4000000 → line ≡ message_line input time value → (front ≡ decimal time) × (rest ≡ input ++ 32 ∷ signed_decimal value)
+pub first_space : (input line front rest : List ℕ) (time : ℕ) (value : ℤ) → IsSplit 32 line front rest → time ≤ most_time → line ≡ message_line input time value → (front ≡ decimal time) × (rest ≡ input ++ 32 ∷ signed_decimal value)
 first_space input line front rest time value split soon is =
     split_is 32 line front rest (decimal time) (input ++ 32 ∷ signed_decimal value) split (lacks-decimal 32 time (omega arith) (omega arith)) is
 
@@ -50,7 +51,7 @@ pub record AreFields (input front name back : List ℕ) (time : ℕ) (value : �
   pub named : name ≡ input
   pub valued : back ≡ signed_decimal value
 
-pub fields_of_message : (input line front rest name back : List ℕ) (time : ℕ) (value : ℤ) → IsTrue (is_name input) → IsSplit 32 line front rest → IsSplit 32 rest name back → time ≤ 4000000 → line ≡ message_line input time value → AreFields input front name back time value
+pub fields_of_message : (input line front rest name back : List ℕ) (time : ℕ) (value : ℤ) → IsTrue (is_name input) → IsSplit 32 line front rest → IsSplit 32 rest name back → time ≤ most_time → line ≡ message_line input time value → AreFields input front name back time value
 fields_of_message input line front rest name back time value named outer inner soon is =
     let first = first_space input line front rest time value outer soon is in
     let second = split_is 32 rest name back input (signed_decimal value) inner (lacks_name 32 input (omega arith) named) first.1 in
@@ -62,7 +63,7 @@ message_of_fields input line front rest name back time value outer inner fields 
     rw (outer.joined, inner.joined, fields.named, fields.timed, fields.valued) refl
 
 -- a message's line has no line feed
-pub lacks-message_line : (input : List ℕ) (time : ℕ) (value : ℤ) → IsTrue (is_name input) → time ≤ 4000000 → FitsSigned w64 value → IsTrue (lacks 10 (message_line input time value))
+pub lacks-message_line : (input : List ℕ) (time : ℕ) (value : ℤ) → IsTrue (is_name input) → time ≤ most_time → FitsSigned w64 value → IsTrue (lacks 10 (message_line input time value))
 lacks-message_line input time value named soon fits =
     let back : IsTrue (lacks 10 (32 ∷ signed_decimal value)) = lacks-signed_decimal 10 value (omega arith) fits in
     let middle : IsTrue (lacks 10 (32 ∷ input ++ (32 ∷ signed_decimal value))) = lacks-append 10 input (32 ∷ signed_decimal value) (lacks_name 10 input (omega arith) named) back in

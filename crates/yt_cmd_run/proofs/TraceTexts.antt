@@ -6,15 +6,16 @@ use Rattle.std.specs.Fmt.{decimal, signed_decimal}
 use Rattle.std.proofs.lemmas.Grind.{common_steps}
 use Rattle.std.proofs.lemmas.List.{append_cancel_left}
 use Rattle.std.proofs.lemmas.Fmt.{decimal_injective, signed_decimal_injective}
-use Rattle.yt_serial.specs.declared.trace.Message.{Message}
+use Rattle.yt_trace.specs.declared.message.Message.{Message}
 use Rattle.yt_graph.specs.Names.{is_name}
+use Rattle.yt_trace.specs.Limits.{most_time, most_trace}
 use Rattle.yt_cmd_run.specs.Inside.Split.{IsSplit}
 use Rattle.yt_cmd_run.specs.TraceText.{message_line, one_number, trace_text, AreInRange, messages_in, IsTraceText}
 use Rattle.yt_cmd_run.proofs.TraceSplits.{one_split, split_is}
 use Rattle.yt_cmd_run.proofs.TraceLines.{lacks-decimal, lacks-signed_decimal, lacks_name, lacks-message_line, fields_of_message}
 
 -- a line is one message's
-one_message : (input : List ℕ) → IsTrue (is_name input) → (m o : ℕ × ℤ) → (m.0 ≤ 4000000) × FitsSigned w64 m.1 → (o.0 ≤ 4000000) × FitsSigned w64 o.1 → message_line input m.0 m.1 ≡ message_line input o.0 o.1 → m ≡ o
+one_message : (input : List ℕ) → IsTrue (is_name input) → (m o : ℕ × ℤ) → (m.0 ≤ most_time) × FitsSigned w64 m.1 → (o.0 ≤ most_time) × FitsSigned w64 o.1 → message_line input m.0 m.1 ≡ message_line input o.0 o.1 → m ≡ o
 one_message input named m o first second same =
     let rest = input ++ 32 ∷ signed_decimal m.1 in
     let outer : IsSplit 32 (message_line input m.0 m.1) (decimal m.0) rest = record { first = lacks-decimal 32 m.0 (omega arith) (omega arith); joined = refl } in
@@ -67,7 +68,7 @@ pub record HasRead (text : List ℕ) (input : List ℕ) (trace : List Message) (
   pub in_range : AreInRange pairs
 
 -- one message more
-pub has_read_more : (text input : List ℕ) (trace : List Message) (rest line later : List ℕ) (time : ℕ) (value : ℤ) → HasRead text input trace rest → IsSplit 10 rest line later → line ≡ message_line input time value → time ≤ 4000000 → FitsSigned w64 value → HasRead text input (trace ++ one_number time value ∷ []) later
+pub has_read_more : (text input : List ℕ) (trace : List Message) (rest line later : List ℕ) (time : ℕ) (value : ℤ) → HasRead text input trace rest → IsSplit 10 rest line later → line ≡ message_line input time value → time ≤ most_time → FitsSigned w64 value → HasRead text input (trace ++ one_number time value ∷ []) later
 has_read_more text input trace rest line later time value so_far split is soon fits = record {
   pairs = so_far.pairs ++ (time, value) ∷ [];
   spelled = so_far.spelled ∙ rw (split.joined, is, trace_text-append input so_far.pairs ((time, value) ∷ []), append_assoc (trace_text input so_far.pairs) (trace_text input ((time, value) ∷ [])) later, append_assoc (message_line input time value) (10 ∷ []) later) refl;
@@ -76,7 +77,7 @@ has_read_more text input trace rest line later time value so_far split is soon f
 }
 
 -- at last the whole text is read
-pub has_read_all : (text input : List ℕ) (trace : List Message) → HasRead text input trace [] → length trace ≤ 200000 → IsTraceText text input trace
+pub has_read_all : (text input : List ℕ) (trace : List Message) → HasRead text input trace [] → length trace ≤ most_trace → IsTraceText text input trace
 has_read_all text input trace so_far few = record {
   pairs = so_far.pairs;
   spelled = rw append-nil at so_far.spelled;
@@ -90,10 +91,10 @@ pub record NextMessage (input : List ℕ) (trace : List Message) (rest : List �
   pub time : ℕ
   pub value : ℤ
   pub later : List ℕ
-  pub soon : time ≤ 4000000
+  pub soon : time ≤ most_time
   pub fits : FitsSigned w64 value
   pub begins : rest ≡ message_line input time value ++ 10 ∷ later
-  pub room : length trace < 200000
+  pub room : length trace < most_trace
 
 -- so it is where something is left of a trace's text
 pub next_message : (text input : List ℕ) (trace other : List Message) (rest : List ℕ) → IsTrue (is_name input) → HasRead text input trace rest → 0 < length rest → IsTraceText text input other → NextMessage input trace rest
@@ -117,7 +118,7 @@ next_message text input trace other rest named so_far some whole =
         }
 
 -- a line in front of a line feed is that of the message that the text begins with
-pub line_of_message : (input rest line later behind : List ℕ) (time : ℕ) (value : ℤ) → IsTrue (is_name input) → time ≤ 4000000 → FitsSigned w64 value → IsSplit 10 rest line later → rest ≡ message_line input time value ++ 10 ∷ behind → line ≡ message_line input time value
+pub line_of_message : (input rest line later behind : List ℕ) (time : ℕ) (value : ℤ) → IsTrue (is_name input) → time ≤ most_time → FitsSigned w64 value → IsSplit 10 rest line later → rest ≡ message_line input time value ++ 10 ∷ behind → line ≡ message_line input time value
 line_of_message input rest line later behind time value named soon fits split begins =
     (split_is 10 rest line later (message_line input time value) behind split (lacks-message_line input time value named soon fits) begins).0
 
@@ -134,7 +135,7 @@ record AreSame (m o : ℕ × ℤ) (rest rest' : List ℕ) : Type 0 where
   value : m.1 ≡ o.1
   behind : rest ≡ rest'
 
-same_line : (input rest rest' : List ℕ) (m o : ℕ × ℤ) → (m.0 ≤ 4000000) × FitsSigned w64 m.1 → (o.0 ≤ 4000000) × FitsSigned w64 o.1 →
+same_line : (input rest rest' : List ℕ) (m o : ℕ × ℤ) → (m.0 ≤ most_time) × FitsSigned w64 m.1 → (o.0 ≤ most_time) × FitsSigned w64 o.1 →
     message_line input m.0 m.1 ++ (10 ∷ rest) ≡ message_line input o.0 o.1 ++ (10 ∷ rest') → AreSame m o rest rest'
 same_line input rest rest' m o first second same =
     let ends : List ℕ = signed_decimal m.1 ++ (10 ∷ rest) in

@@ -2,8 +2,8 @@
 use Rattle.std.specs.Prelude.{◌≡◌, ℕ, suc, ◌+◌, ◌≤◌, nat_lt, List, [], ◌∷◌, ◌++◌, length, Option, Some, None, ℤ, FitsSigned, codes, if◌then◌else◌}
 use Rattle.std.specs.Int.{w64}
 use Rattle.std.specs.Fmt.{decimal, signed_decimal}
-use Rattle.yt_serial.specs.declared.trace.Message.{Message}
-use Rattle.yt_serial.specs.Limits.{most_time, most_trace}
+use Rattle.yt_trace.specs.declared.message.Message.{Message}
+use Rattle.yt_trace.specs.Limits.{most_time, most_trace}
 use Rattle.yt_cmd_run.specs.declared.trace.fault.TraceFault.{TraceFault}
 use Rattle.yt_cmd_run.specs.declared.trace.fault.TraceFault.TheVariants.{Order, Soon}
 

@@ -19,6 +19,7 @@ use yt_answer::{Answer, Verdict, not_yet};
 use yt_base::Text;
 use yt_graph::{Ast, Graph};
 use yt_run::run_first;
+use yt_trace::Trace;
 
 /// What is due to a run, by the texts of the graph and of the trace. `Err` comes where memory ran out.
 pub fn run_answer(alloc: Global, graph: &[u8], trace: &[u8]) -> Result<Answer, AllocError>
@@ -52,7 +53,7 @@ fn trace_answer(alloc: Global, ast: &Ast, graph: &Graph, trace: &[u8]) -> Result
             text: fault_text(alloc, fault)?,
         });
     }
-    let told = run_first(alloc, graph, &messages)?;
+    let told = run_first(alloc, graph, &Trace::from_items(messages))?;
     Ok(Answer::done(run_text(alloc, graph, &told)?))
 }
 

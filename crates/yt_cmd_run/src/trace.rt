@@ -1,8 +1,8 @@
 //! Reads the text of a trace of one input.
 ghost use Rattle.std.specs.Prelude.{◌≡◌, ◌≢◌, ℕ, ℤ, List, ◌≤◌, FitsSigned, IfOk, IsTrue, MatchOption, ◌==◌, position};
 ghost use Rattle.std.specs.Int.{w64};
-ghost use Rattle.yt_serial.specs.declared.trace.Message.{Message};
-ghost use Rattle.yt_serial.specs.Limits.{most_time};
+ghost use Rattle.yt_trace.specs.declared.message.Message.{Message};
+ghost use Rattle.yt_trace.specs.Limits.{most_time};
 ghost use Rattle.yt_graph.specs.Names.{is_name};
 ghost use Rattle.yt_cmd_run.specs.Inside.Split.{IsSplit, lacks};
 ghost use Rattle.yt_cmd_run.specs.TraceText.{IsTraceText, message_line, one_number};
@@ -14,20 +14,18 @@ pub use fault::{TraceFault, first_fault};
 use numbers::{number, signed_number};
 use std::alloc::{AllocError, Global};
 use yt_list::Items;
-use yt_serial::{Message, Trace};
-
-/// How many messages a trace has at most.
-const MOST_MESSAGES: usize = 200_000;
-
-/// The last tick at which a message may come.
-const LAST_TICK: u64 = 4_000_000;
+use yt_trace::{MOST_MESSAGES, MOST_TIME, Message};
 
 /// The messages of a trace's text, where `input` is the name of the input.
 ///
 /// Each line is `TIME INPUT VALUE` and a line feed, with one space between the fields and numbers as they are printed.
 /// `None` comes exactly where the text isn't made so, a time passes 4,000,000 ticks, a value doesn't fit 64 bits, or there
 /// are more than 200,000 lines.
-pub fn read_trace(alloc: Global, input: &[u8], text: &[u8]) -> Result<Option<Trace>, AllocError>
+pub fn read_trace(
+    alloc: Global,
+    input: &[u8],
+    text: &[u8],
+) -> Result<Option<Items<Message>>, AllocError>
     requires { IsTrue (is_name input.now) }
     ensures { IfOk result (λ read. MatchOption read
         ((trace : List Message) → IsTraceText text.now input.now trace → ⊥)
@@ -77,7 +75,7 @@ fn read_line(input: &[u8], line: &[u8]) -> Option<(u64, i64)>
         return None;
     }
     let time = number(time)?;
-    if time > LAST_TICK {
+    if time > MOST_TIME {
         return None;
     }
     Some((time, signed_number(value)?))

@@ -13,7 +13,7 @@ use Rattle.yt_code.specs.declared.stepped.Stepped.TheVariants.{Going, Ended}
 use Rattle.yt_code.specs.Step.{State, Tick, at_place, enters, turns_back, effect, step_at, IsTick}
 use Rattle.yt_code.specs.Valid.{Program, Shape, Leads, IsFine, IsValidCode}
 use Rattle.yt_code.specs.Ready.{AreCounters, IsReady, OnGoing, StaysReady, NeverStuck}
-use Rattle.yt_code.specs.Needs.{HasTurn, Finds}
+use Rattle.yt_code.specs.Inside.Needs.{HasTurn, Finds}
 use Rattle.yt_code.proofs.Shapes.{is_there, is_within, is_fine}
 
 -- what a tick keeps

@@ -2,4 +2,4 @@ pub mod Step
 pub mod Valid
 pub mod Ready
 pub mod Outbox
-pub mod Needs
+pub mod Inside

@@ -5,7 +5,7 @@ ghost use Rattle.yt_graph.specs.Meaning.{neg_value, not_value};
 ghost use Rattle.yt_code.specs.Step.{instruction_step, effect, at_place, topmost, sends_of, IsTick};
 ghost use Rattle.yt_code.specs.Ready.{idle, begun, IsReady, OnGoing};
 ghost use Rattle.yt_code.specs.Outbox.{AddsSend, AddsSends, LeavesAll, TakesAll};
-ghost use Rattle.yt_code.specs.Needs.{Finds, HasTurn, IsQuiet};
+ghost use Rattle.yt_code.specs.Inside.Needs.{Finds, HasTurn, IsQuiet};
 
 use crate::code::Code;
 use crate::instr::Instr;

@@ -7,7 +7,7 @@ use Rattle.yt_log.specs.declared.plan.PlanItem.{PlanItem}
 use Rattle.yt_log.specs.Tasks.{Has}
 use Rattle.yt_log.specs.Plan.{same_job, its_task, jobs_of, IsNext, IsLegalAfter, IsLegal}
 use Rattle.yt_log.specs.Ticks.{Ticks, done}
-use Rattle.yt_log.specs.Laws.{IsLike, AreLike}
+use Rattle.yt_log.specs.Laws.{AreSameSoFar, IsSameSoFar}
 use Rattle.yt_log.proofs.Lemmas.{cases_job, same_job_true, same_job_refl}
 use Rattle.yt_log.proofs.Lemmas.{jobs_of-cons}
 use Rattle.yt_log.specs.declared.last_jobs.LastJob.{LastJob}
@@ -148,18 +148,21 @@ module _ (tasks : List Task) (job : Job) (c : ℕ) (some : 1 ≤ c) (most : c �
   unfolding with_cost
   legal_with plan legal = legal_after [] plan legal
 
-  like_one : (log : Ticks) (i : PlanItem) → done log job (length log) ≡ 0 → 1 ≤ i.cost → IsLike log i (changed job c i)
+  like_one : (log : Ticks) (i : PlanItem) → done log job (length log) ≡ 0 → 1 ≤ i.cost → IsSameSoFar log i (changed job c i)
   like_one log i none h = record {
     job = sym (changed_job job c i);
     arrival = sym (changed_arrival job c i);
-    cost = λ begun. ⊎_elim
-        (λ (e : i.job ≡ job). let d : done log i.job (length log) ≡ done log job (length log) = ap (λ (j : Job). done log j (length log)) e in absurd (omega arith))
-        (λ (ne : i.job ≡ job → ⊥). ap (λ (x : PlanItem). x.cost) (sym (changed_no job c i ne)))
+    cost = ⊎_elim
+        (λ (e : i.job ≡ job).
+        let mine : done log i.job (length log) ≡ 0 = ap (λ (j : Job). done log j (length log)) e ∙ none in
+        let its : done log (changed job c i).job (length log) ≡ 0 = ap (λ (j : Job). done log j (length log)) (changed_job job c i) ∙ mine in
+        let cost = changed_some i h in
+        inr (omega arith, omega arith))
+        (λ (ne : i.job ≡ job → ⊥). inl (ap (λ (x : PlanItem). x.cost) (sym (changed_no job c i ne))))
         (job_or_not i job);
-    some = (h, changed_some i h);
   }
 
-  pub like_with : (log : Ticks) (xs : List PlanItem) → done log job (length log) ≡ 0 → ((i : PlanItem) → Has xs i → 1 ≤ i.cost) → AreLike log xs (with_cost job c xs)
+  pub like_with : (log : Ticks) (xs : List PlanItem) → done log job (length log) ≡ 0 → ((i : PlanItem) → Has xs i → 1 ≤ i.cost) → AreSameSoFar log xs (with_cost job c xs)
   unfolding with_cost changed
   like_with log [] none h = tt
   like_with log (x ∷ xs) none h = (like_one log x none (h x (inl refl)), like_with log xs none (λ i has. h i (inr has)))

@@ -1,6 +1,7 @@
 pub mod Lemmas
 mod Changes
 mod Countings
+mod Idling
 mod LongerLogs
 mod Playings
 mod Readings

@@ -14,7 +14,7 @@ use Rattle.yt_log.specs.Ticks.{Ticks}
 use Rattle.yt_log.specs.EdfDdm.{IsEdfDdm, edf_ddm}
 use Rattle.yt_log.specs.Laws.{IsSafe}
 use Rattle.yt_log.proofs.Lemmas.{rule_is_safe}
-use Rattle.yt_log.proofs.Lemmas.{grows_online}
+use Rattle.yt_log.proofs.Lemmas.{rule_is_online}
 use Rattle.yt_log.proofs.Lemmas.{rule_makes_logs, rule_is_determined}
 use Rattle.yt_ready.specs.declared.entry.Entry.{Entry}
 use Rattle.yt_order.specs.Falling.{HasOneMore}
@@ -182,7 +182,7 @@ module _ (tasks : List Task) (plan : List PlanItem) (legal : IsLegal tasks plan)
   pub playing_end : (n : ℕ) → length log ≡ n → log ≡ edf_ddm tasks plan n
   playing_end n e =
       let r = subst (λ (ts : List Task). IsEdfDdm ts (take k plan) log) p.set p.rule in
-      let g = grows_online.plan tasks (take k plan) (drop k plan) log (λ i has. let l = p.later i has in let c = p.stands.clock in omega arith) r in
+      let g = rule_is_online.plan tasks (take k plan) (drop k plan) log (λ i has. let l = p.later i has in let c = p.stands.clock in omega arith) r in
       let rule = subst (λ (ys : List PlanItem). IsEdfDdm tasks ys log) (sym (split plan k)) g in
       let made = rule_makes_logs tasks plan n in
       rule_is_determined tasks plan log (edf_ddm tasks plan n) rule made.rule (e ∙ sym made.long)

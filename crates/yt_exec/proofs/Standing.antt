@@ -14,8 +14,8 @@ use Rattle.yt_log.proofs.Lemmas.{one_item, good_item}
 use Rattle.yt_log.proofs.Lemmas.{has_push}
 use Rattle.yt_log.proofs.Lemmas.{current_fresh}
 use Rattle.yt_log.proofs.Lemmas.{rule_is_least}
-use Rattle.yt_log.proofs.Lemmas.{grows_online}
-use Rattle.yt_log.proofs.Lemmas.{costs_wait}
+use Rattle.yt_log.proofs.Lemmas.{rule_is_online}
+use Rattle.yt_log.proofs.Lemmas.{rule_is_non_clairvoyant}
 use Rattle.yt_ready.specs.declared.entry.Entry.{Entry}
 use Rattle.yt_ready.specs.Order.{comes_before, IsLeast}
 use Rattle.yt_order.specs.Falling.{HasOneMore}
@@ -74,7 +74,7 @@ module _ (old : Moment) (left : Job → ℕ) (plan : List PlanItem) (log : Ticks
       rule = λ rule.
           let c : choice old.tasks plan log (length log) ≡ None = rule_is_least.none old.tasks plan log (length log) nothing in
           let r = subst (λ (ts : List Task). IsEdfDdm ts plan log) tasks rule in
-          let g = grows_online.tick old.tasks plan log r in
+          let g = rule_is_online.tick old.tasks plan log r in
           subst (λ (ts : List Task). IsEdfDdm ts plan (log ++ None ∷ [])) (sym tasks) (subst (λ (o : Option Job). IsEdfDdm old.tasks plan (log ++ o ∷ [])) c g);
     }
 
@@ -194,7 +194,7 @@ module _ (old : Moment) (left : Job → ℕ) (plan : List PlanItem) (log : Ticks
     unfolding longer
     rule is =
         let c : choice old.tasks plan log (length log) ≡ Some (job_in e) = rule_is_least.some old.tasks plan log (length log) item.0 first ∙ ap (λ (j : Job). Some j) item.1.job in
-        subst (λ (o : Option Job). IsEdfDdm old.tasks plan (log ++ o ∷ [])) c (grows_online.tick old.tasks plan log is)
+        subst (λ (o : Option Job). IsEdfDdm old.tasks plan (log ++ o ∷ [])) c (rule_is_online.tick old.tasks plan log is)
 
     -- the entries after the tick
     record AreEntries : Type 0 where
@@ -322,7 +322,7 @@ module _ (old : Moment) (left : Job → ℕ) (plan : List PlanItem) (log : Ticks
     with_legal = legal_with old.tasks job c some most plan legal
 
     pub with_rule : IsEdfDdm old.tasks plan log → IsEdfDdm old.tasks (with_cost job c plan) log
-    with_rule rule = costs_wait.rule old.tasks plan (with_cost job c plan) log (like_with old.tasks job c some most log plan unbegun (λ i has. (good_item old.tasks plan legal i has).some)) rule
+    with_rule rule = rule_is_non_clairvoyant.rule old.tasks plan (with_cost job c plan) log (like_with old.tasks job c some most log plan unbegun (λ i has. (good_item old.tasks plan legal i has).some)) rule
 
     pub with_right : (i : PlanItem) → Has (with_cost job c plan) i → i.job ≡ job → i.cost ≡ c
     with_right i has same =
@@ -438,9 +438,9 @@ module _ (old : Moment) (left : Job → ℕ) (plan : List PlanItem) (log : Ticks
 
     pub release_stands : GoesOn new left plan (plan ++ item_at old.clock job cost ∷ []) log log
     release_stands = record {
-      legal = subst (λ (ts : List Task). IsLegal ts (plan ++ item_at old.clock job cost ∷ [])) (sym tasks) (grows_online.item old.tasks plan (item_at old.clock job cost) legal is_next);
+      legal = subst (λ (ts : List Task). IsLegal ts (plan ++ item_at old.clock job cost ∷ [])) (sym tasks) (rule_is_online.item old.tasks plan (item_at old.clock job cost) legal is_next);
       stands = release_keeps;
       rule = λ rule.
           subst (λ (ts : List Task). IsEdfDdm ts (plan ++ item_at old.clock job cost ∷ []) log) (sym tasks)
-          (grows_online.plan old.tasks plan (item_at old.clock job cost ∷ []) log later_only (subst (λ (ts : List Task). IsEdfDdm ts plan log) tasks rule));
+          (rule_is_online.plan old.tasks plan (item_at old.clock job cost ∷ []) log later_only (subst (λ (ts : List Task). IsEdfDdm ts plan log) tasks rule));
     }

@@ -31,6 +31,10 @@ release_of releases task = numbered_or releases task no_release
 abbrev pub start : List Task → ℕ → Moment
 start tasks room = record { tasks = tasks; entries = []; spare = room; clock = 0; releases = replicate (length tasks) no_release }
 
+-- an executive at another tick
+abbrev pub at_tick : ℕ → Moment → Moment
+at_tick tick moment = record moment { clock = tick }
+
 -- an entry's job
 abbrev pub job_in : Entry → Job
 job_in entry = record { task = entry.task; number = entry.number }

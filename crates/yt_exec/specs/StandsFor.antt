@@ -1,5 +1,5 @@
 -- When an executive and the body of its jobs stand for a plan and a log, and how they go on.
-use Rattle.std.specs.Prelude.{◌≡◌, ℕ, ◌+◌, ◌<◌, ◌≤◌, ◌==◌, true, false, List, [], ◌∷◌, ◌++◌, length, Option, Some, None, ◌↔◌, IsTrue, if◌then◌else◌}
+use Rattle.std.specs.Prelude.{◌≡◌, ℕ, ◌+◌, ◌-◌, ◌<◌, ◌≤◌, ◌==◌, true, false, List, [], ◌∷◌, ◌++◌, length, replicate, Option, Some, None, ◌↔◌, IsTrue, if◌then◌else◌}
 use Rattle.std.specs.List.{Contains}
 use Rattle.yt_set.specs.declared.task.Task.{Task}
 use Rattle.yt_log.specs.declared.job.Job.{Job}
@@ -89,6 +89,12 @@ abbrev pub GoesOnTo : Moment → Moment → (Job → ℕ) → (Job → ℕ) → 
 GoesOnTo old new left left_after ticked =
     (plan : List PlanItem) (log : Ticks) → IsLegal old.tasks plan → StandsFor old left plan log →
     GoesOn new left_after plan (plan_after left left_after ticked plan) log (log ++ job_run ticked ∷ [])
+
+-- an executive with no job goes on to a later tick: the log has idle ticks up to it
+abbrev pub IdlesTo : Moment → Moment → Type 0
+IdlesTo old new =
+    (left : Job → ℕ) (plan : List PlanItem) (log : Ticks) → IsLegal old.tasks plan → StandsFor old left plan log →
+    GoesOn new left plan plan log (log ++ replicate (new.clock - old.clock) None)
 
 -- what a tick does: nothing where no job waits; else the least job runs, and leaves where the body has no tick of it left
 abbrev pub IsTick : {X : Type 0} → (X → Job → X → Type 0) → (X → Job → X → Type 0) → (Job → ℕ) → Moment → Moment → X → X → Ticked → Type 0

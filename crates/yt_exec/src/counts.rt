@@ -6,7 +6,7 @@ ghost use Rattle.yt_log.specs.declared.plan.PlanItem.{PlanItem};
 ghost use Rattle.yt_log.specs.Tasks.{Has};
 ghost use Rattle.yt_log.specs.Plan.{IsLegal};
 ghost use Rattle.yt_exec.specs.Bodies.{Begins, IsFree, IsKnown, MayStillBegin, Steps};
-ghost use Rattle.yt_exec.specs.Inside.Counting.{cost_at, count_at, IsThere, left_at, Leaves, MayBegin, no_count};
+ghost use Rattle.yt_exec.specs.Inside.Counting.{cost_at, count_at, HasCount, left_at, Leaves, MayBegin, no_count};
 
 use crate::body::{Body, Turn};
 use std::alloc::{AllocError, Global};
@@ -116,7 +116,7 @@ impl<'a> Body for Counts<'a> {
 
 /// The count of a job. The caller shows that it is there.
 fn count_of(rows: &[Row], job: Job) -> Count
-    requires { IsThere rows.now job }
+    requires { HasCount rows.now job }
     ensures { result ≡ count_at rows.now job }
 {
     rows[job.task as usize].count(job.number)
@@ -124,7 +124,7 @@ fn count_of(rows: &[Row], job: Job) -> Count
 
 /// Puts how many ticks of a job are left. The caller shows that its count is there.
 fn put_left(rows: &mut [Row], job: Job, left: u64)
-    requires { IsThere rows.old job }
+    requires { HasCount rows.old job }
     ensures { Leaves rows.old rows.new job left }
 {
     let cost = count_of(rows, job).cost;

@@ -1,5 +1,5 @@
 //! The executive.
-ghost use Rattle.std.specs.Prelude.{◌≡◌, ◌↔◌, ℕ, ◌+◌, ◌-◌, ◌<◌, ◌≤◌, ◌^◌, Bool, true, false, List, [], length, map, slice_set, IfOk};
+ghost use Rattle.std.specs.Prelude.{◌≡◌, ◌↔◌, ℕ, ◌+◌, ◌-◌, ◌<◌, ◌≤◌, ◌^◌, Bool, true, false, List, [], length, map, slice_set, IfOk, IsTrue};
 ghost use Rattle.std.specs.List.{Contains};
 ghost use Rattle.yt_set.specs.declared.task.Task.{Task};
 ghost use Rattle.yt_set.specs.Limits.{most_ticks};
@@ -8,8 +8,8 @@ ghost use Rattle.yt_log.specs.declared.job.Job.{Job};
 ghost use Rattle.yt_log.specs.EdfDdm.{lowered};
 ghost use Rattle.yt_order.specs.Falling.{HasOneMore};
 ghost use Rattle.yt_exec.specs.Bodies.{GivesTick, IsFree, IsKnown, MayStillBegin, Runs};
-ghost use Rattle.yt_exec.specs.Moments.{after_tick, IsNextJob, job_in, released, resource_in, start};
-ghost use Rattle.yt_exec.specs.StandsFor.{GoesOnTo, GoesOnWith, IsBodyOf, IsTick, StandsFor};
+ghost use Rattle.yt_exec.specs.Moments.{after_tick, at_tick, IsNextJob, job_in, released, resource_in, start};
+ghost use Rattle.yt_exec.specs.StandsFor.{GoesOnTo, GoesOnWith, IdlesTo, IsBodyOf, IsTick, StandsFor};
 
 use crate::body::{Body, Turn};
 use std::alloc::{AllocError, Global};
@@ -117,6 +117,25 @@ impl Executive {
             task: job.task,
             number: job.number,
         });
+    }
+
+    /// Whether no job waits: each that was released has ended. Takes constant time.
+    pub fn is_idle(&self) -> bool
+        ensures { IsTrue result ↔ (self.now.entries ≡ []) }
+    {
+        self.ready.least().is_none()
+    }
+
+    /// Goes on to a tick without a tick to any job. The caller shows that no job waits, that the tick isn't before the next one, and
+    /// that at most 2^63 ticks go by. Takes constant time, however many ticks go by.
+    pub fn idle_until(&mut self, tick: u64)
+        requires idle { self.old.entries ≡ [] }
+        requires later { self.old.clock ≤ tick }
+        requires clock { tick ≤ 2 ^ 63 }
+        ensures at { self.new ≡ at_tick tick self.old }
+        ensures stands { IdlesTo self.old self.new }
+    {
+        self.clock = tick;
     }
 
     /// Gives the next tick to the waiting job that comes first: by its deadline, which is lowered by the deadline floor of its resource once

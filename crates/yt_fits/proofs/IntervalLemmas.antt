@@ -1,16 +1,20 @@
 -- Where jobs that keep their resources leave room for others.
-use Rattle.std.proofs.Common.{◌≡◌, ℕ, ◌+◌, ◌-◌, ◌*◌, ◌<◌, ◌≤◌, Bool, true, false, cond, eqb, eq-eqb, min, List, [], ◌∷◌, map, take, slice_get, slice_index_or, Option, Some, None, refl, sym, ap, subst, ◌∙◌, ⊎_elim, arith}
+use Rattle.std.proofs.Common.{◌≡◌, ℕ, ◌+◌, ◌-◌, ◌*◌, ◌<◌, ◌≤◌, Bool, true, false, cond, eqb, eq-eqb, min, List, [], ◌∷◌, length, map, take, slice_get, slice_index_or, Option, Some, None, refl, sym, ap, subst, ◌∙◌, ⊎_elim, arith}
 use Rattle.std.specs.Prelude.{IsSomeAnd}
 use Rattle.std.proofs.lemmas.Bool.{cases_eq, cases_lt}
+use Rattle.std.proofs.lemmas.List.{take_all}
 use Rattle.std.proofs.lemmas.List.Elements.{All-append, All-filter, All-map}
 use Rattle.std.proofs.lemmas.List.Sums.{sum_by_more, sum_by-cons}
 use Rattle.std.proofs.lemmas.Option.{get_or_from_slice_get, slice_get_within}
 use Rattle.std.specs.List.{All, fold, reduce, sum_by}
+use Rattle.yt_list.specs.Numbered.{numbered}
+use Rattle.yt_list.proofs.Lemmas.{numbered_next, numbered_there}
 use Rattle.yt_set.specs.declared.task.Task.{Task}
 use Rattle.yt_set.specs.Tasks.{FitsInterval, LacksRoom, LeavesRoom, demand_bound, floor_of, jobs_due, users_of, within}
 use Rattle.yt_set.proofs.Lemmas.{AreDueInPeriods, IsDueInPeriod, all_first, all_one, all_rest, none_due, same_jobs_due}
 use Rattle.yt_fits.specs.declared.interval.Breach.{Breach}
 use Rattle.yt_fits.specs.Intervals.{HaveRoom, IsLowestBreach}
+use Rattle.yt_fits.specs.Inside.Streams.{IsBeforeNext}
 use Rattle.yt_fits.proofs.MultipleLemmas.{take_next}
 
 -- what holds of two numbers holds of the lesser, and so of the least of many
@@ -31,12 +35,24 @@ reduce_keeps P [] n all e = cc
 reduce_keeps P (x ∷ xs) n all e = let same : fold min x xs ≡ n = cc in subst P same (fold_keeps P x xs (all_first P x xs all) (all_rest P x xs all))
 
 -- so what holds of each task's `within` holds of a floor
-floor_keeps : (P : ℕ → Type 0) (tasks : List Task) (r floor : ℕ) → All (λ t. P (within t)) tasks → floor_of tasks r ≡ Some floor → P floor
+pub floor_keeps : (P : ℕ → Type 0) (tasks : List Task) (r floor : ℕ) → All (λ t. P (within t)) tasks → floor_of tasks r ≡ Some floor → P floor
 floor_keeps P tasks r floor all e = by (eqb r 0) e
   where
     by : (b : Bool) → cond b None (reduce min (map within (users_of tasks r))) ≡ Some floor → P floor
     by true q = cc
     by false q = reduce_keeps P (map within (users_of tasks r)) floor (All-map P within (users_of tasks r) (All-filter (λ t. eqb t.resource r) (λ t. P (within t)) tasks all)) q
+
+-- what holds of the first n elements and of the next holds of one more, and of all once all are among them
+pub all_next : {X : Type 0} (P : X → Type 0) (xs : List X) (n : ℕ) (x : X) → numbered xs (n + 1) ≡ Some x → All P (take n xs) → P x → All P (take (n + 1) xs)
+all_next P xs n x at before here =
+    subst (All P) (sym (take_next xs n x (sym (numbered_next xs n) ∙ at))) (All-append P (take n xs) (x ∷ []) before (all_one P x here))
+
+pub all_taken : {X : Type 0} (P : X → Type 0) (xs : List X) (n : ℕ) → length xs ≤ n → All P (take n xs) → All P xs
+all_taken P xs n out before = subst (All P) (take_all n xs out) before
+
+-- and where it holds of each for one bound, it does for a greater
+pub all_wider : {X : Type 0} (P Q : X → Type 0) (xs : List X) → ((x : X) → P x → Q x) → All P xs → All Q xs
+all_wider P Q xs wider before = λ k d lt. wider (slice_index_or xs k d) (before k d lt)
 
 -- the demand with one more task
 pub demand_next : (tasks : List Task) (n t : ℕ) (task : Task) → slice_get tasks n ≡ Some task → demand_bound (take (n + 1) tasks) t ≡ demand_bound (take n tasks) t + jobs_due task t * task.cost
@@ -44,18 +60,14 @@ demand_next tasks n t task at =
     sum_by_more (λ (x : Task). jobs_due x t * x.cost) tasks n task (slice_get_within tasks n task at)
     ∙ ap (λ (x : Task). demand_bound (take n tasks) t + jobs_due x t * x.cost) (get_or_from_slice_get tasks n task task at)
 
-same_sum : {X : Type 0} (f g : X → ℕ) (xs : List X) → All (λ x. f x ≡ g x) xs → sum_by f xs ≡ sum_by g xs
+pub same_sum : {X : Type 0} (f g : X → ℕ) (xs : List X) → All (λ x. f x ≡ g x) xs → sum_by f xs ≡ sum_by g xs
 same_sum f g [] all = refl
 same_sum f g (x ∷ xs) all =
     let here = all_first (λ y. f y ≡ g y) x xs all in
     let rest = same_sum f g xs (all_rest (λ y. f y ≡ g y) x xs all) in
     sum_by-cons f x xs ∙ ap (λ n. n + sum_by f xs) here ∙ ap (λ n. g x + n) rest ∙ sym (sum_by-cons g x xs)
 
--- up to the next point, which comes no later than a job more of any task can be due
-abbrev pub IsBeforeNext : List Task → ℕ → ℕ → Type 0
-IsBeforeNext tasks point next = All (λ task. next ≤ jobs_due task point * task.period + within task) tasks
-
--- the demand stays the same
+-- up to the next point the demand stays the same
 same_demand : (tasks : List Task) (point next t : ℕ) → AreDueInPeriods tasks → IsBeforeNext tasks point next → point ≤ t → t < next → demand_bound tasks t ≡ demand_bound tasks point
 same_demand tasks point next t due before from to =
     same_sum (λ (x : Task). jobs_due x t * x.cost) (λ (x : Task). jobs_due x point * x.cost) tasks
@@ -74,7 +86,7 @@ floor_behind tasks point next r floor due before is less =
     floor_keeps (λ n. n < next → n ≤ point) tasks r floor
     (λ k d lt. let x = slice_index_or tasks k d in behind_point x point next (due k d lt) (before k d lt)) is less
 
-some_and : (o : Option ℕ) (P Q : ℕ → Type 0) → ((n : ℕ) → o ≡ Some n → P n → Q n) → IsSomeAnd o P → IsSomeAnd o Q
+pub some_and : (o : Option ℕ) (P Q : ℕ → Type 0) → ((n : ℕ) → o ≡ Some n → P n → Q n) → IsSomeAnd o P → IsSomeAnd o Q
 some_and None P Q f h = absurd h
 some_and (Some n) P Q f h = f n refl h
 
@@ -149,5 +161,6 @@ fits_from_room tasks rooms = λ k d lt span lacks. rooms span k d lt lacks
 pub breach_unfits : (tasks : List Task) (breach : Breach) → IsLowestBreach tasks breach → FitsInterval tasks → ⊥
 breach_unfits tasks breach is fits =
     let n = breach.task - 1 in
-    let leaves = subst (LeavesRoom tasks) (get_or_from_slice_get tasks n is.task is.task is.there) (fits n is.task (slice_get_within tasks n is.task is.there)) in
+    let at = (numbered_there tasks breach.task is.task is.there).1 in
+    let leaves = subst (LeavesRoom tasks) (get_or_from_slice_get tasks n is.task is.task at) (fits n is.task (slice_get_within tasks n is.task at)) in
     leaves breach.len is.lacks

@@ -1,4 +1,8 @@
 pub mod Lemmas
+mod DearestLemmas
 mod IntervalLemmas
 mod LoadLemmas
 mod MultipleLemmas
+mod StreamLemmas
+mod TournamentLemmas
+mod WalkLemmas

@@ -1,5 +1,5 @@
 -- Multiples of longer and longer lists of tasks.
-use Rattle.std.proofs.Common.{◌≡◌, ℕ, zero, suc, ◌+◌, ◌<◌, ◌≤◌, List, [], ◌∷◌, ◌++◌, ◌-◌, ⊎_elim, take, slice_get, Some, add-one, sym, subst, ap, ◌∙◌, arith}
+use Rattle.std.proofs.Common.{◌≡◌, ℕ, zero, suc, ◌+◌, ◌<◌, ◌≤◌, List, [], ◌∷◌, ◌++◌, ⊎_elim, take, slice_get, Some, add-one, sym, subst, ap, ◌∙◌, arith}
 use Rattle.std.proofs.lemmas.Bool.{cases_eq}
 use Rattle.std.proofs.lemmas.List.Elements.{All-take}
 use Rattle.std.proofs.lemmas.Nat.Gcd.{le_of_dvd}
@@ -8,6 +8,8 @@ use Rattle.std.proofs.Math.Nat.{one-dvd, eq-zero_of_zero-dvd}
 use Rattle.std.proofs.Math.Seq.{take-suc}
 use Rattle.std.specs.Int.{◌∣◌}
 use Rattle.yt_fits.specs.Loads.{hyperperiod_limit}
+use Rattle.yt_list.specs.Numbered.{numbered}
+use Rattle.yt_list.proofs.Lemmas.{numbered_next}
 use Rattle.yt_set.specs.declared.task.Task.{Task}
 use Rattle.yt_set.specs.Tasks.{IsTaskSet, lcm, hyperperiod}
 use Rattle.yt_set.proofs.Lemmas.{least_from, multiple_more, periods_of}
@@ -36,10 +38,9 @@ first_le tasks n set =
     le_of_dvd all.positive (some.least (hyperperiod tasks) (one-dvd (hyperperiod tasks)) (All-take (λ t. t.period ∣ hyperperiod tasks) n tasks all.common))
 
 -- a multiple that was that of n tasks is that of one more
-pub next_whole : (tasks : List Task) (n m h : ℕ) (task : Task) → slice_get tasks (n + 1 - 1) ≡ Some task → h ≡ hyperperiod (take n tasks) → m ≡ lcm h task.period → m ≡ hyperperiod (take (n + 1) tasks)
+pub next_whole : (tasks : List Task) (n m h : ℕ) (task : Task) → numbered tasks (n + 1) ≡ Some task → h ≡ hyperperiod (take n tasks) → m ≡ lcm h task.period → m ≡ hyperperiod (take (n + 1) tasks)
 next_whole tasks n m h task at e is =
-    let here : n ≡ n + 1 - 1 = omega arith in
-    is ∙ ap (λ k. lcm k task.period) e ∙ sym (multiple_next tasks n task (ap (slice_get tasks) here ∙ at))
+    is ∙ ap (λ k. lcm k task.period) e ∙ sym (multiple_next tasks n task (sym (numbered_next tasks n) ∙ at))
 
 -- a multiple that is not too great, after others that are not
 pub narrow_more : (tasks : List Task) (n : ℕ) → ((k : ℕ) → k ≤ n → hyperperiod (take k tasks) ≤ hyperperiod_limit tasks) → hyperperiod (take (n + 1) tasks) ≤ hyperperiod_limit tasks

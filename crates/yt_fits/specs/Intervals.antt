@@ -1,6 +1,7 @@
 -- When a job that keeps its resource leaves others too little room, and where it first does.
-use Rattle.std.specs.Prelude.{◌≡◌, ℕ, ◌-◌, ◌<◌, ◌≤◌, List, take, slice_get, Some}
+use Rattle.std.specs.Prelude.{◌≡◌, ℕ, ◌-◌, ◌<◌, List, take, Some}
 use Rattle.std.specs.List.{All}
+use Rattle.yt_list.specs.Numbered.{numbered}
 use Rattle.yt_set.specs.declared.task.Task.{Task}
 use Rattle.yt_set.specs.Tasks.{LacksRoom, need_of}
 use Rattle.yt_fits.specs.declared.interval.Breach.{Breach}
@@ -11,9 +12,8 @@ HaveRoom tasks span some = All (λ task. LacksRoom tasks span task → ⊥) some
 
 -- the breach is that of the first task that lacks room in its span
 pub record IsLowestBreach (tasks : List Task) (breach : Breach) : Type 0 where
-  pub positive : 1 ≤ breach.task
   pub task : Task
-  pub there : slice_get tasks (breach.task - 1) ≡ Some task
+  pub there : numbered tasks breach.task ≡ Some task
   pub lacks : LacksRoom tasks breach.len task
   pub need : breach.need ≡ need_of tasks task breach.len
   pub lowest : HaveRoom tasks breach.len (take (breach.task - 1) tasks)

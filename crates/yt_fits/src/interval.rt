@@ -40,7 +40,7 @@ pub fn interval_plain(set: &TaskSet) -> Option<Breach>
 }
 
 /// The longest time from an arrival to a deadline of a task under a resource; 0 where no task is.
-fn longest(set: &TaskSet) -> u64
+pub(crate) fn longest(set: &TaskSet) -> u64
     ensures longest { All (λ task. 1 ≤ task.resource → within task ≤ result) set.now }
     ensures bound { result ≤ most_ticks }
 {
@@ -55,7 +55,7 @@ fn longest(set: &TaskSet) -> u64
 }
 
 /// The lowest task that lacks room in a span.
-fn breach_in(set: &TaskSet, span: u64) -> Option<Breach>
+pub(crate) fn breach_in(set: &TaskSet, span: u64) -> Option<Breach>
     requires positive { 1 ≤ span }
     requires short { span ≤ most_ticks }
     ensures span { IfSome result (λ breach. breach.len ≡ span) }

@@ -5,13 +5,19 @@
 //! much.
 #![tactic(auto)]
 
+mod dearest;
 mod interval;
 mod laws;
 mod multiple;
+mod stream;
 mod sums;
+mod tournament;
 mod unfit;
+mod walk;
+mod walking;
 
 pub use interval::{Breach, interval_plain};
 pub use laws::worked_intervals;
 pub use sums::{LoadSum, TooWide, load};
 pub use unfit::{Unfit, fits};
+pub use walking::interval_walk;

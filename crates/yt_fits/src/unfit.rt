@@ -4,8 +4,9 @@ ghost use Rattle.yt_set.specs.Tasks.{Fits, hyperperiod};
 ghost use Rattle.yt_fits.specs.Loads.{hyperperiod_limit, load_sum};
 ghost use Rattle.yt_fits.specs.Unfits.{IsReason, IsUnfit, NamesTaskOf};
 
-use crate::interval::{Breach, interval_plain};
+use crate::interval::Breach;
 use crate::sums::{LoadSum, load};
+use crate::walking::interval_walk;
 use yt_set::TaskSet;
 
 /// Why a set doesn't fit. Of several reasons the first in this order counts.
@@ -33,7 +34,7 @@ pub fn fits(set: &TaskSet) -> Result<LoadSum, Unfit>
     match load(set) {
         Err(wide) => Err(Unfit::Hyperperiod(wide.task)),
         Ok(sum) if sum.part > sum.whole => Err(Unfit::Overload(sum)),
-        Ok(sum) => match interval_plain(set) {
+        Ok(sum) => match interval_walk(set) {
             Some(breach) => Err(Unfit::Interval(breach)),
             None => Ok(sum),
         },

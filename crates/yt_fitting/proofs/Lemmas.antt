@@ -8,7 +8,7 @@ use Rattle.yt_answer.specs.Due.{IsDue}
 use Rattle.yt_answer.proofs.Lemmas.{due_answer, due_parts}
 use Rattle.yt_fits.specs.declared.unfit.Unfit.{Unfit}
 use Rattle.yt_fits.specs.declared.unfit.Unfit.TheVariants.{Hyperperiod, Overload, Interval}
-use Rattle.yt_fits.specs.Loads.{most_multiple}
+use Rattle.yt_fits.specs.Loads.{hyperperiod_limit}
 use Rattle.yt_fits.specs.Unfits.{IsReason}
 use Rattle.yt_fits.proofs.Lemmas.{breach_unfits}
 use Rattle.yt_set.specs.declared.read.LineFault.{LineFault}
@@ -30,7 +30,7 @@ due_unfit kind labels tasks Asked of IsOf why result reason verdict text = due_p
 
 -- what is due to tasks that fit is what is asked of them
 pub due_fits : {E : Type 0} (kind : List ℕ) (labels : List (List ℕ)) (tasks : List Task) (Asked : Type 0) (of : Asked → Verdict) (IsOf : Asked → List ℕ → Type 0) (result : Result Answer E) →
-    hyperperiod tasks ≤ most_multiple → Fits tasks → IfOk result (λ a. IsDue of IsOf a.verdict a.text) →
+    hyperperiod tasks ≤ hyperperiod_limit tasks → Fits tasks → IfOk result (λ a. IsDue of IsOf a.verdict a.text) →
     IfOk result (λ a. IsDue (load_verdict {tasks = tasks} of) (IsLoadText kind labels {tasks = tasks} IsOf) a.verdict a.text)
 due_fits kind labels tasks Asked of IsOf (Ok a) narrow room due = record { cause = fits narrow room due.cause; verdict = due.verdict; told = due.told }
 due_fits kind labels tasks Asked of IsOf (Err e) narrow room due = tt
@@ -54,18 +54,18 @@ not_both m h more less = omega arith
 
 one_reason : (tasks : List Task) (a b : Unfit) → IsReason tasks a → IsReason tasks b → unfit_verdict a ≡ unfit_verdict b
 one_reason tasks (Hyperperiod n) (Hyperperiod k) p q = refl
-one_reason tasks (Hyperperiod n) (Overload sum) p q = absurd (not_both most_multiple (hyperperiod tasks) p.1 q.1)
-one_reason tasks (Hyperperiod n) (Interval breach) p q = absurd (not_both most_multiple (hyperperiod tasks) p.1 q.1)
-one_reason tasks (Overload sum) (Hyperperiod n) p q = absurd (not_both most_multiple (hyperperiod tasks) q.1 p.1)
+one_reason tasks (Hyperperiod n) (Overload sum) p q = absurd (not_both (hyperperiod_limit tasks) (hyperperiod tasks) p.1 q.1)
+one_reason tasks (Hyperperiod n) (Interval breach) p q = absurd (not_both (hyperperiod_limit tasks) (hyperperiod tasks) p.1 q.1)
+one_reason tasks (Overload sum) (Hyperperiod n) p q = absurd (not_both (hyperperiod_limit tasks) (hyperperiod tasks) q.1 p.1)
 one_reason tasks (Overload sum) (Overload more) p q = refl
 one_reason tasks (Overload sum) (Interval breach) p q = absurd (p.2 q.2)
-one_reason tasks (Interval breach) (Hyperperiod n) p q = absurd (not_both most_multiple (hyperperiod tasks) q.1 p.1)
+one_reason tasks (Interval breach) (Hyperperiod n) p q = absurd (not_both (hyperperiod_limit tasks) (hyperperiod tasks) q.1 p.1)
 one_reason tasks (Interval breach) (Overload sum) p q = absurd (q.2 p.2)
 one_reason tasks (Interval breach) (Interval more) p q = refl
 
 -- tasks that fit have no reason not to
-pub no_reason : (tasks : List Task) (why : Unfit) → IsReason tasks why → hyperperiod tasks ≤ most_multiple → Fits tasks → ⊥
-no_reason tasks (Hyperperiod n) p narrow room = not_both most_multiple (hyperperiod tasks) p.1 narrow
+pub no_reason : (tasks : List Task) (why : Unfit) → IsReason tasks why → hyperperiod tasks ≤ hyperperiod_limit tasks → Fits tasks → ⊥
+no_reason tasks (Hyperperiod n) p narrow room = not_both (hyperperiod_limit tasks) (hyperperiod tasks) p.1 narrow
 no_reason tasks (Overload sum) p narrow room = p.2 room.loads
 no_reason tasks (Interval breach) p narrow room = breach_unfits tasks breach p.0.lowest room.intervals
 

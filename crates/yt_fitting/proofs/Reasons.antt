@@ -1,5 +1,5 @@
 -- Tasks fit, or there is a reason why they don't.
-use Rattle.std.proofs.Common.{◌≡◌, ℕ, zero, suc, ◌+◌, ◌-◌, ◌<◌, ◌≤◌, ⊎_elim, List, [], length, take, slice_get, Some, refl, subst, sym, arith}
+use Rattle.std.proofs.Common.{◌≡◌, ℕ, zero, suc, ◌+◌, ◌-◌, ◌<◌, ◌≤◌, ⊎_elim, List, [], length, take, Some, refl, subst, sym, ◌∙◌, arith}
 use Rattle.std.proofs.lemmas.Bool.{cases_eq, cases_lt}
 use Rattle.std.proofs.lemmas.List.{take_all}
 use Rattle.std.proofs.lemmas.Option.{slice_get_cases}
@@ -8,9 +8,10 @@ use Rattle.yt_fits.specs.declared.interval.Breach.{Breach}
 use Rattle.yt_fits.specs.declared.unfit.Unfit.{Unfit}
 use Rattle.yt_fits.specs.declared.unfit.Unfit.TheVariants.{Hyperperiod, Overload, Interval}
 use Rattle.yt_fits.specs.Intervals.{HaveRoom, IsFirstBreach}
-use Rattle.yt_fits.specs.Loads.{IsFirstWide, load_sum, most_multiple}
+use Rattle.yt_fits.specs.Loads.{IsFirstWide, hyperperiod_limit, load_sum}
 use Rattle.yt_fits.specs.Unfits.{IsReason}
 use Rattle.yt_fits.proofs.Lemmas.{fits_from_room, room_next}
+use Rattle.yt_list.proofs.Lemmas.{numbered_next}
 use Rattle.yt_set.specs.declared.task.Task.{Task}
 use Rattle.yt_set.specs.Tasks.{Fits, LacksRoom, hyperperiod, load, multiple_from, need_of}
 
@@ -38,17 +39,17 @@ multiple_of_none : hyperperiod [] ≡ 1
 unfolding multiple_from
 multiple_of_none = refl
 
-none_wide : (tasks : List Task) → most_multiple < hyperperiod (take 0 tasks) → ⊥
+none_wide : (tasks : List Task) → hyperperiod_limit tasks < hyperperiod (take 0 tasks) → ⊥
 none_wide tasks over =
-    let one : most_multiple < 1 = subst (λ h. most_multiple < h) multiple_of_none over in
+    let one : hyperperiod_limit tasks < 1 = subst (λ h. hyperperiod_limit tasks < h) multiple_of_none over in
     omega (arith, one)
 
 -- a hyperperiod that is too great is so from a first task on
-wide_from : (tasks : List Task) → most_multiple < hyperperiod tasks → ((n : ℕ) → IsFirstWide tasks n → ⊥) → ⊥
+wide_from : (tasks : List Task) → hyperperiod_limit tasks < hyperperiod tasks → ((n : ℕ) → IsFirstWide tasks n → ⊥) → ⊥
 wide_from tasks over none =
-    first_over most_multiple (λ k. hyperperiod (take k tasks)) (length tasks) (subst (λ (ts : List Task). most_multiple < hyperperiod ts) (sym (take-length tasks)) over) by
+    first_over (hyperperiod_limit tasks) (λ k. hyperperiod (take k tasks)) (length tasks) (subst (λ (ts : List Task). hyperperiod_limit tasks < hyperperiod ts) (sym (take-length tasks)) over) by
   where
-    by : (k : ℕ) → k ≤ length tasks → most_multiple < hyperperiod (take k tasks) → ((j : ℕ) → j < k → hyperperiod (take j tasks) ≤ most_multiple) → ⊥
+    by : (k : ℕ) → k ≤ length tasks → hyperperiod_limit tasks < hyperperiod (take k tasks) → ((j : ℕ) → j < k → hyperperiod (take j tasks) ≤ hyperperiod_limit tasks) → ⊥
     by zero le here before = none_wide tasks here
     by (suc k) le here before = none (suc k) (record { positive = omega arith; there = le; wide = here; first = before })
 
@@ -67,9 +68,8 @@ room_of_all tasks none span = up_to (suc span) span (omega arith)
         let more : n + 1 ≡ suc n = omega arith in
         let room : LacksRoom tasks span task → ⊥ = λ lacks. none (record { task = n + 1; len = span; need = need_of tasks task span }) (record {
           lowest = record {
-            positive = omega arith;
             task = task;
-            there = subst (λ k. slice_get tasks k ≡ Some task) less there.2;
+            there = numbered_next tasks n ∙ there.2;
             lacks = lacks;
             need = refl;
             lowest = subst (λ k. HaveRoom tasks span (take k tasks)) less first;
@@ -90,14 +90,14 @@ room_of_all tasks none span = up_to (suc span) span (omega arith)
         subst (λ (ts : List Task). HaveRoom tasks span ts) (take-length tasks) (fewer span before (length tasks))
 
 -- tasks without a reason fit
-pub fit_or_reason : (tasks : List Task) → ((why : Unfit) → IsReason tasks why → ⊥) → (hyperperiod tasks ≤ most_multiple → Fits tasks → ⊥) → ⊥
+pub fit_or_reason : (tasks : List Task) → ((why : Unfit) → IsReason tasks why → ⊥) → (hyperperiod tasks ≤ hyperperiod_limit tasks → Fits tasks → ⊥) → ⊥
 fit_or_reason tasks none unfit =
     ⊎_elim
-    (λ (wide : most_multiple < hyperperiod tasks). wide_from tasks wide (λ n is. none (Hyperperiod n) (is, wide)))
-    (λ (narrow : hyperperiod tasks ≤ most_multiple).
+    (λ (wide : hyperperiod_limit tasks < hyperperiod tasks). wide_from tasks wide (λ n is. none (Hyperperiod n) (is, wide)))
+    (λ (narrow : hyperperiod tasks ≤ hyperperiod_limit tasks).
     ⊎_elim
     (λ (over : hyperperiod tasks < load tasks (hyperperiod tasks)). none (Overload (load_sum tasks)) (refl, narrow, λ fits. omega (arith, over, fits)))
     (λ (loads : load tasks (hyperperiod tasks) ≤ hyperperiod tasks).
     unfit narrow (record { loads = loads; intervals = fits_from_room tasks (room_of_all tasks (λ breach is. none (Interval breach) (is, narrow, loads))) }))
     (cases_lt (hyperperiod tasks) (load tasks (hyperperiod tasks))))
-    (cases_lt most_multiple (hyperperiod tasks))
+    (cases_lt (hyperperiod_limit tasks) (hyperperiod tasks))

@@ -4,7 +4,7 @@ use Rattle.yt_answer.specs.declared.verdict.Verdict.{Verdict}
 use Rattle.yt_answer.specs.declared.verdict.Verdict.TheVariants.{Graph, Overload}
 use Rattle.yt_fits.specs.declared.unfit.Unfit.{Unfit}
 use Rattle.yt_fits.specs.declared.unfit.Unfit.TheVariants.{Hyperperiod, Overload as Overloaded, Interval}
-use Rattle.yt_fits.specs.Loads.{most_multiple}
+use Rattle.yt_fits.specs.Loads.{hyperperiod_limit}
 use Rattle.yt_fits.specs.Unfits.{IsReason}
 use Rattle.yt_list.specs.Numbered.{numbered_or}
 use Rattle.yt_log.specs.Patterns.{MustMiss}
@@ -35,7 +35,7 @@ IsUnfitText kind labels tasks (Interval breach) text = IsOverload labels tasks (
 -- why a verdict on tasks comes, where `Asked` says why one on tasks that fit does
 pub data LoadCause (tasks : List Task) (Asked : Type 0) : Type 0 where
   unfit : (why : Unfit) → IsReason tasks why → LoadCause tasks Asked
-  fits : hyperperiod tasks ≤ most_multiple → Fits tasks → Asked → LoadCause tasks Asked
+  fits : hyperperiod tasks ≤ hyperperiod_limit tasks → Fits tasks → Asked → LoadCause tasks Asked
 
 -- the verdict
 abbrev pub load_verdict : {tasks : List Task} {Asked : Type 0} → (Asked → Verdict) → LoadCause tasks Asked → Verdict

@@ -2,17 +2,23 @@
 ghost use Rattle.std.specs.Prelude.{◌≡◌, IfOk};
 ghost use Rattle.yt_fitting.specs.FaultLines.{fault_end, fault_line, set_line};
 
+use crate::kind::FileKind;
 use std::alloc::{AllocError, Global};
 use yt_base::Text;
 use yt_set::LineFault;
 
 /// The line about a line at fault: what kind of file it is in, its number, and what comes behind the number. `Err` comes where memory ran
 /// out.
-pub fn fault_line(alloc: Global, kind: &[u8], number: u32, end: &[u8]) -> Result<Text, AllocError>
-    ensures { IfOk result (λ line. line ≡ fault_line kind.now number end.now) }
+pub fn fault_line(
+    alloc: Global,
+    kind: FileKind,
+    number: u32,
+    end: &[u8],
+) -> Result<Text, AllocError>
+    ensures { IfOk result (λ line. line ≡ fault_line kind number end.now) }
 {
     let mut line = Text::new(alloc);
-    line.put(kind)?;
+    line.put(kind.word())?;
     line.put_field(u64::from(number))?;
     line.put(end)?;
     Ok(line)
@@ -22,7 +28,7 @@ pub fn fault_line(alloc: Global, kind: &[u8], number: u32, end: &[u8]) -> Result
 pub(crate) fn set_line(alloc: Global, number: u32, fault: LineFault) -> Result<Text, AllocError>
     ensures { IfOk result (λ line. line ≡ set_line number fault) }
 {
-    fault_line(alloc, b"set", number, fault_end(fault))
+    fault_line(alloc, FileKind::Set, number, fault_end(fault))
 }
 
 /// What is wrong with a line of a set, behind its number.

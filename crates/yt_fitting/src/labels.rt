@@ -1,14 +1,15 @@
-//! The names of tasks.
-ghost use Rattle.std.specs.Prelude.{◌≡◌, ◌≤◌, [], length};
+//! The names of tasks in printed texts.
+ghost use Rattle.std.specs.Prelude.{◌≡◌, []};
 ghost use Rattle.yt_list.specs.Numbered.{numbered_or};
 
-use yt_list::Name;
+use yt_list::{Name, numbered};
 
-/// The name of a task, by its number from 1. The caller shows that there is one.
-pub(crate) fn label_of(labels: &[Name], task: u32) -> &[u8]
-    requires positive { 1 ≤ task }
-    requires within { task ≤ length labels.now }
+/// The name of the task of a number, from 1; empty where there is no such task.
+pub fn task_label(labels: &[Name], task: u32) -> &[u8]
     ensures { result.now ≡ numbered_or labels.now task [] }
 {
-    labels[task as usize - 1].as_slice()
+    match numbered(labels, task) {
+        Some(label) => label.as_slice(),
+        None => b"",
+    }
 }

@@ -17,6 +17,7 @@ mod unfit;
 
 pub use accepted::accepted_answer;
 pub use faults::fault_line;
-pub use kind::Kind;
+pub use kind::{FileKind, Kind};
+pub use labels::task_label;
 pub use set_reading::{SetReading, read_named_set};
 pub use unfit::unfit_answer;

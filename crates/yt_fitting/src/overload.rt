@@ -8,7 +8,7 @@ ghost use Rattle.yt_witness.specs.Witnesses.{IsPatternOf, arrivals_of, as_arriva
 ghost use Rattle.yt_fitting.specs.Loads.{IsOverload};
 ghost use Rattle.yt_fitting.specs.TaskText.{arrivals_text, arrive_lines, interval_line, load_line, pattern_text};
 
-use crate::labels::label_of;
+use crate::labels::task_label;
 use crate::load_text::put_load;
 use std::alloc::{AllocError, Global};
 use yt_base::Text;
@@ -51,7 +51,7 @@ pub(crate) fn room_overload(
 {
     let mut text = Text::new(alloc);
     text.put(b"overload interval ")?;
-    text.put(label_of(labels, breach.task))?;
+    text.put(task_label(labels, breach.task))?;
     text.put_field(breach.len)?;
     text.put_wide_field(breach.need)?;
     text.put(b"\n")?;
@@ -88,7 +88,7 @@ fn put_arrivals(
     ensures { OnOk result (text.new ≡ text.old ++ arrive_lines labels.now 1 (arrivals_of set.now pattern.now)) }
 {
     for n in 0..set.len() {
-        put_arrival(text, label_of(labels, n + 1), arrive(set, pattern, n + 1))?;
+        put_arrival(text, task_label(labels, n + 1), arrive(set, pattern, n + 1))?;
     }
     Ok(())
 }

@@ -6,7 +6,7 @@ ghost use Rattle.yt_fitting.specs.Loads.{IsUnfitText, unfit_verdict};
 ghost use Rattle.yt_fitting.specs.TaskText.{hyperperiod_line, kind_word};
 
 use crate::kind::Kind;
-use crate::labels::label_of;
+use crate::labels::task_label;
 use crate::overload::{load_overload, room_overload};
 use std::alloc::{AllocError, Global};
 use yt_answer::{Answer, Verdict};
@@ -31,8 +31,8 @@ pub fn unfit_answer(
 {
     match *why {
         Unfit::Hyperperiod(task) => {
-            let label = label_of(labels, task);
-            Ok(Answer::refused(hyperperiod_line(alloc, kind.word(), label)?))
+            let label = task_label(labels, task);
+            Ok(Answer::refused(hyperperiod_line(alloc, kind, label)?))
         }
         Unfit::Overload(sum) => Ok(overload(load_overload(alloc, labels, set, sum)?)),
         Unfit::Interval(breach) => Ok(overload(room_overload(alloc, labels, set, breach)?)),
@@ -50,11 +50,11 @@ fn overload(text: Text) -> Answer
 }
 
 /// The line of a graph or a set whose hyperperiod is too great, by the name of the task from which on it is.
-fn hyperperiod_line(alloc: Global, kind: &[u8], label: &[u8]) -> Result<Text, AllocError>
-    ensures { IfOk result (λ t. t ≡ hyperperiod_line kind.now label.now) }
+fn hyperperiod_line(alloc: Global, kind: Kind, label: &[u8]) -> Result<Text, AllocError>
+    ensures { IfOk result (λ t. t ≡ hyperperiod_line (kind_word kind) label.now) }
 {
     let mut text = Text::new(alloc);
-    text.put(kind)?;
+    text.put(kind.word())?;
     text.put(b" hyperperiod ")?;
     text.put(label)?;
     text.put(b"\n")?;

@@ -1,8 +1,10 @@
 pub mod Limits
+pub mod Reserved
+pub mod Names
 pub mod AstPicture
 pub mod ItemNames
-pub mod AstWellFormed
 pub mod AstParts
+pub mod AstWellFormed
 pub mod Picture
 pub mod Inputs
 pub mod WellFormed
@@ -12,6 +14,4 @@ pub mod Cost
 pub mod Sends
 pub mod Writes
 pub mod Operators
-pub mod Reserved
-pub mod Names
 pub mod Labels

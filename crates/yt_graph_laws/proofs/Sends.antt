@@ -1,9 +1,11 @@
 -- What a handler sends is on its port's outs, by recursion on its picture.
-use Rattle.std.proofs.Common.{◌≡◌, ℕ, zero, suc, ◌+◌, ◌-◌, ◌<◌, List, length, Option, None, Some, IsSomeAnd, refl, sym, ap, ◌∙◌, subst, arith, slice_get}
+use Rattle.std.proofs.Common.{◌≡◌, ℕ, zero, suc, ◌+◌, ◌-◌, List, length, Option, None, Some, IsSomeAnd, refl, sym, ap, ◌∙◌, subst, slice_get}
 use Rattle.std.specs.Prelude.{Bool, true, false, ℤ}
 use Rattle.std.specs.List.{All}
 use Rattle.std.proofs.lemmas.List.Elements.{All-nil, All-push, All-get_or}
 use Rattle.std.proofs.lemmas.Option.{slice_get_within, get_or_from_slice_get}
+use Rattle.yt_list.specs.Numbered.{numbered}
+use Rattle.yt_list.proofs.Lemmas.{numbered_there}
 use Rattle.yt_graph.specs.declared.port.OutHead.{OutHead}
 use Rattle.yt_graph.specs.Meaning.{Run, expr_value, expr_ticks, all_values, spend, is_not_zero, choose, turns_of, turns, stmt_run, block_run, start}
 use Rattle.yt_graph.specs.Picture.{ExprsTree, no_exprs, more_exprs, StmtTree, set_local, set_var, send, if_only, if_else, repeat, BlockTree, empty, more, PortTree, GraphTree}
@@ -17,17 +19,11 @@ values_count (more_exprs e rest) locals vars = ap suc (values_count rest locals 
 module _ (g : GraphTree) (port : PortTree) where
   is_send : (out : ℕ) (es : ExprsTree) (locals vars : List ℤ) → IsOutOfWidth port out (exprs_count es) → IsSendOf port (record { out = out; values = all_values es locals vars })
   is_send out es locals vars (place, is, wide) =
-      let at : place ≡ out - 1 = omega (arith, is) in
-      let there : IsSomeAnd (slice_get port.outs place) (λ (o : OutHead). length (all_values es locals vars) ≡ o.width) = by (slice_get port.outs place) wide in
-      record { some = omega (arith, is); one_of = omega (arith, is, within (slice_get port.outs place) refl wide); wide = subst (λ n. IsSomeAnd (slice_get port.outs n) (λ (o : OutHead). length (all_values es locals vars) ≡ o.width)) at there }
+      subst (λ n. IsSomeAnd (numbered port.outs n) (λ (o : OutHead). length (all_values es locals vars) ≡ o.width)) (sym is) (by (slice_get port.outs place) wide)
     where
       by : (o : Option OutHead) → IsSomeAnd o (λ (o : OutHead). o.width ≡ exprs_count es) → IsSomeAnd o (λ (o : OutHead). length (all_values es locals vars) ≡ o.width)
       by None h = h
       by (Some x) h = values_count es locals vars ∙ sym h
-
-      within : (o : Option OutHead) → slice_get port.outs place ≡ o → IsSomeAnd o (λ (o : OutHead). o.width ≡ exprs_count es) → place < length port.outs
-      within None e h = absurd h
-      within (Some x) e h = slice_get_within port.outs place x e
 
   -- a step keeps that all sends are the port's
   abbrev Keeps : (Run → Run) → Type 0
@@ -63,6 +59,6 @@ port_at g fine place port at =
     subst (IsFinePort g) (get_or_from_slice_get g.ports place port port at) (All-get_or (IsFinePort g) g.ports place port (slice_get_within g.ports place port at) fine.each_port)
 
 pub sends_have_their_width : SendsHaveTheirWidth
-sends_have_their_width g fine place port at message vars =
-    let is = port_at g fine place port at in
+sends_have_their_width g fine number port at message vars =
+    let is = port_at g fine (number - 1) port (numbered_there g.ports number port at).1 in
     block_sends_fit g port port.body is.10 (start port.locals message vars) (All-nil (IsSendOf port))

@@ -17,11 +17,11 @@ use Rattle.yt_log.specs.Ticks.{done}
 use Rattle.yt_log.proofs.Lemmas.{has_push, jobs_push_same, jobs_push_other}
 use Rattle.yt_rates.specs.Faults.{IsWithinRates}
 use Rattle.yt_cost.specs.CodeAlone.{written_before}
-use Rattle.yt_serial.specs.declared.trace.Message.{Message}
+use Rattle.yt_trace.specs.declared.message.Message.{Message}
 use Rattle.yt_serial.specs.PortMessages.{PortMessage}
 use Rattle.yt_list.specs.Numbered.{numbered}
 use Rattle.yt_serial.specs.SerialHandling.{Handled, Serial, messages_at, items_of, handled_of, brought, placed, start, handle_message, serial_step}
-use Rattle.yt_serial.specs.Traces.{KeepsPeriods}
+use Rattle.yt_trace.specs.Traces.{KeepsPeriods}
 use Rattle.yt_serial.proofs.Lemmas.{Holds, placed_at, port_there, numbered_left, serial_holds, run_push, step_of, writes_of_push_other, writes_of_push_same, writes_below_more}
 use Rattle.yt_interleave.specs.Interleaved.{ActiveJob, RunState, port_at, group_at, Uses, value_at, item_of, passes_of, known_at, put, to_come, with_begun, IsActiveJob, IsInUse, IsEndedOrActive, MatchesSerial}
 use Rattle.yt_serial.specs.Beginnings.{nth_job}

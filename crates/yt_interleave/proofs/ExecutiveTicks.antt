@@ -1,5 +1,5 @@
 -- A tick of an executive is one of the run that it stands for.
-use Rattle.std.proofs.Common.{◌≡◌, ℕ, suc, ◌+◌, ◌<◌, ◌≤◌, Bool, true, eqb, List, [], ◌∷◌, ◌++◌, length, None, Some, sym, ap, subst, ◌∙◌, ⊎_elim, arith, eq-eqb, ne_eqb}
+use Rattle.std.proofs.Common.{◌≡◌, ℕ, suc, ◌+◌, ◌-◌, ◌<◌, ◌≤◌, Bool, true, eqb, List, [], ◌∷◌, ◌++◌, length, replicate, None, Some, sym, ap, subst, ◌∙◌, ⊎_elim, arith, eq-eqb, ne_eqb}
 use Rattle.std.specs.List.{Contains}
 use Rattle.std.proofs.lemmas.Bool.{cases_lt, cond-true, cond-false}
 use Rattle.yt_graph.specs.Picture.{GraphTree}
@@ -12,20 +12,21 @@ use Rattle.yt_log.specs.Ticks.{Ticks, done}
 use Rattle.yt_ready.specs.declared.entry.Entry.{Entry}
 use Rattle.yt_exec.specs.Bodies.{task_in}
 use Rattle.yt_exec.specs.Moments.{Moment, job_in}
-use Rattle.yt_exec.specs.StandsFor.{StandsFor, GoesOnTo, GoesOnWith, item_at, with_cost, plan_after}
+use Rattle.yt_exec.specs.StandsFor.{StandsFor, GoesOnTo, GoesOnWith, IdlesTo, item_at, with_cost, plan_after}
 use Rattle.yt_exec.specs.declared.executive.Ticked.TheVariants.{Idle, Ran}
 use Rattle.yt_rates.specs.Tables.{tasks_of}
 use Rattle.yt_serial.specs.declared.shown.OutLine.{OutLine}
-use Rattle.yt_serial.specs.declared.trace.Message.{Message}
+use Rattle.yt_trace.specs.declared.message.Message.{Message}
 use Rattle.yt_serial.specs.PortMessages.{PortMessage}
 use Rattle.yt_serial.specs.SerialHandling.{Serial, handle_message}
 use Rattle.yt_interleave.specs.Executives.{HasLeft, GivesFirstTick, StillStandsFor, ExecutivesTick}
 use Rattle.yt_interleave.specs.Interleaved as own
-use Rattle.yt_interleave.specs.Interleaved.{ActiveJob, whole_of, with_begun, with_idle}
+use Rattle.yt_interleave.specs.Interleaved.{ActiveJob, whole_of, with_begun, with_idle, with_idles}
 use Rattle.yt_interleave.specs.Moves.{MayBegin, after_tick, active_job}
 use Rattle.yt_serial.specs.Premises.{IsSchedulable}
 use Rattle.yt_interleave.specs.Runs.{IsRunning}
 use Rattle.yt_interleave.specs.Timing.{IsRuleLog}
+use Rattle.yt_interleave.specs.Waits.{NoneComesBefore}
 use Rattle.yt_interleave.proofs.Executives.{executives_follow}
 use Rattle.yt_interleave.proofs.NextJobs.{next_job}
 use Rattle.yt_interleave.proofs.Whole.{grows, runs_go_on, runs_are_on_time}
@@ -128,6 +129,23 @@ idles g trace able s r plan lines is old new left left' tasks kept stands goes =
       stands = on.stands;
     }
 
+idles_on : (g : GraphTree) (trace : List Message) → IsSchedulable g trace → (s : Serial) (r : own.RunState) (due : ℕ) (plan : List PlanItem) (lines : List OutLine)
+    → IsRunning g trace s r due plan lines → (old new : Moment) (left : Job → ℕ) → old.tasks ≡ tasks_of g → new.tasks ≡ old.tasks → StandsFor old left plan r.log
+    → due ≤ new.clock → old.clock ≤ new.clock → NoneComesBefore r due new.clock → IdlesTo old new
+    → StillStandsFor g trace s (with_idles (new.clock - old.clock) r) new.clock plan lines new left
+idles_on g trace able s r due plan lines is old new left tasks kept stands le later none goes =
+    let count = new.clock - old.clock in
+    let on = goes left plan r.log (subst (λ (ts : List Task). IsLegal ts plan) (sym tasks) is.by.legal) stands in
+    let now : new.tasks ≡ tasks_of g = kept ∙ tasks in
+    let rule = on.rule (subst (λ (ts : List Task). IsEdfDdm ts plan r.log) (sym now) is.by.rule) in
+    let by = legal_run g new.tasks plan (r.log ++ replicate count None) now on.legal rule in
+    let end : new.clock ≡ length r.log + count = let c = stands.clock in omega arith in
+    let next = runs_go_on.idles_on g trace able s r due plan lines is count (omega arith) (subst (NoneComesBefore r due) end none) by in
+    record {
+      running = subst (λ (t : ℕ). IsRunning g trace s (with_idles count r) t plan lines) (sym end) next;
+      stands = on.stands;
+    }
+
 releases : (g : GraphTree) (r : own.RunState) (plan : List PlanItem) (old new : Moment) (left : Job → ℕ) → old.tasks ≡ tasks_of g → new.tasks ≡ old.tasks → StandsFor old left plan r.log → IsRuleLog g plan r.log
     → (job : Job) → GoesOnWith old new job → 1 ≤ (task_in old.tasks job).cost
     → StandsFor new left (plan ++ item_at old.clock job 1 ∷ []) r.log × IsRuleLog g (plan ++ item_at old.clock job 1 ∷ []) r.log
@@ -144,6 +162,8 @@ executives_tick = record {
   goes_on = λ g trace able s r plan lines is old new left left' executes kept has entry there begun ended goes b at same.
       goes_on g trace able s r plan lines is old new left left' executes.tasks kept executes.stands has entry there begun ended goes b at same;
   idles = λ g trace able s r plan lines is old new left left' executes kept goes. idles g trace able s r plan lines is old new left left' executes.tasks kept executes.stands goes;
+  idles_on = λ g trace able s r due plan lines is old new left executes kept le later none goes.
+      idles_on g trace able s r due plan lines is old new left executes.tasks kept executes.stands le later none goes;
   releases = λ g r plan old new left executes kept by job goes most. releases g r plan old new left executes.tasks kept executes.stands by job goes most;
   next = λ g trace able s r plan lines is moment left wider executes legal port n m there now into back.
       next_job g trace able s r plan lines is moment left wider executes.tasks executes.stands legal port n m there now into back;

@@ -1,5 +1,5 @@
 -- What an executive's entries and its body's ticks left say of an interleaved run.
-use Rattle.std.proofs.Common.{◌≡◌, ◌⊎◌, ℕ, zero, suc, ◌+◌, ◌<◌, ◌≤◌, true, false, cond, eqb, List, [], ◌∷◌, length, get_or, Option, None, Some, refl, sym, ap, subst, ◌∙◌, inl, inr, ⊎_elim, arith, eq-eqb, ne_eqb}
+use Rattle.std.proofs.Common.{◌≡◌, ◌⊎◌, ℕ, zero, suc, ◌+◌, ◌<◌, ◌≤◌, true, false, cond, eqb, List, [], ◌∷◌, length, get_or, Option, None, Some, refl, sym, ap, ap₂, subst, ◌∙◌, inl, inr, ⊎_elim, arith, eq-eqb, ne_eqb}
 use Rattle.std.specs.List.{Contains}
 use Rattle.std.specs.Option.{unwrap_or}
 use Rattle.std.proofs.lemmas.Bool.{cases_eq, cases_lt, cond-true, cond-false, both_ways}
@@ -7,23 +7,26 @@ use Rattle.std.proofs.lemmas.List.{length-map, get_or_past}
 use Rattle.std.proofs.lemmas.Option.{none-some, same_Some, slice_get-get_or}
 use Rattle.yt_graph.specs.Picture.{GraphTree, PortTree}
 use Rattle.yt_set.specs.declared.task.Task.{Task}
+use Rattle.yt_set.specs.Tasks.{within}
 use Rattle.yt_log.specs.declared.job.Job.{Job}
 use Rattle.yt_log.specs.declared.plan.PlanItem.{PlanItem}
+use Rattle.yt_log.specs.Plan.{its_task, deadline_of}
 use Rattle.yt_log.specs.Tasks as numbers
 use Rattle.yt_log.specs.Tasks.{Has}
 use Rattle.yt_log.specs.Ticks.{Ticks, done, IsWaiting}
-use Rattle.yt_log.proofs.Lemmas.{one_item, good_item}
+use Rattle.yt_log.proofs.Lemmas.{one_item, good_item, done_grows}
 use Rattle.yt_ready.specs.declared.entry.Entry.{Entry}
+use Rattle.yt_exec.specs.Bodies.{task_in}
 use Rattle.yt_exec.specs.Moments.{Moment, job_in}
 use Rattle.yt_exec.specs.StandsFor.{StandsFor, entry_of}
 use Rattle.yt_rates.specs.Tables.{task_of, tasks_of}
 use Rattle.yt_serial.specs.declared.shown.OutLine.{OutLine}
-use Rattle.yt_serial.specs.declared.trace.Message.{Message}
+use Rattle.yt_trace.specs.declared.message.Message.{Message}
 use Rattle.yt_serial.specs.PortMessages.{PortMessage}
 use Rattle.yt_list.specs.Numbered.{numbered}
 use Rattle.yt_serial.specs.SerialHandling.{Serial, messages_at, items_of, handled_of}
 use Rattle.yt_graph.specs.Labels.{no_port}
-use Rattle.yt_interleave.specs.Executives.{HasLeft, AllReleased, ExecutivesFollow}
+use Rattle.yt_interleave.specs.Executives.{HasLeft, AllReleased, AllDue, Executes, ExecutivesFollow}
 use Rattle.yt_interleave.specs.Interleaved as own
 use Rattle.yt_interleave.specs.Interleaved.{ActiveJob, port_at, group_at, known_at, to_come, put, whole_of, item_of, with_begun, with_tick, with_end}
 use Rattle.yt_serial.specs.Beginnings.{nth_job}
@@ -166,6 +169,27 @@ module _ (g : GraphTree) (trace : List Message) (able : IsSchedulable g trace) (
           (numbered_last (known_at r port)) in
           omega arith
 
+-- the deadlines that are past are kept, so a job that waits is due later
+in_time : (g : GraphTree) (trace : List Message) → IsSchedulable g trace → (s : Serial) (r : own.RunState) (due : ℕ) (plan : List PlanItem) (lines : List OutLine)
+    → IsRunning g trace s r due plan lines → (moment : Moment) (left : Job → ℕ) → Executes g r plan moment left → AllDue moment
+unfolding deadline_of
+in_time g trace able s r due plan lines is moment left executes entry has =
+    let o = executes.stands.only entry has in
+    let z = o.0 in
+    let n = length r.log in
+    let clock = executes.stands.clock in
+    let arrival : entry.arrival ≡ z.arrival = ap (λ (x : Entry). x.arrival) o.3 in
+    let task : within (task_in moment.tasks (job_in entry)) ≡ within (its_task (tasks_of g) z) =
+    ap₂ (λ (ts : List Task) (j : Job). within (task_in ts j)) executes.tasks (ap job_in o.3) in
+    ⊎_elim
+    (λ (lt : n < z.arrival + within (its_task (tasks_of g) z)). omega arith)
+    (λ (ge : z.arrival + within (its_task (tasks_of g) z) ≤ n).
+    let kept = able.keeps plan is.by.legal r.log is.by.rule z o.1 ge in
+    let grown = done_grows r.log z.job (z.arrival + within (its_task (tasks_of g) z)) n ge in
+    let unfinished = o.2.unfinished in
+    absurd (omega arith))
+    (cases_lt n (z.arrival + within (its_task (tasks_of g) z)))
+
 cost : (g : GraphTree) (trace : List Message) → IsSchedulable g trace → (s : Serial) (r : own.RunState) (job : Job) (m : PortMessage) → MayBegin g s r job m
     → done r.log job (length r.log) ≡ 0 → (left : Job → ℕ) → HasLeft g (after_tick g (active_job job m s) (with_begun job m s.vars r)) left
     → left job + 1 ≡ (whole_of g (active_job job m s)).ticks
@@ -193,5 +217,6 @@ executives_follow = record {
   pending = λ g trace able s r due plan lines is moment left stands entry has fresh. pending g trace able s r due plan lines is moment left stands entry has fresh;
   under_way = λ g trace able s r due plan lines is moment left stands entry has begun. under_way g trace able s r due plan lines is moment left stands entry has begun;
   over = λ g trace able s r due plan lines is low high placed moment left stands none. over g trace able s r due plan lines is moment left stands low high placed none;
+  in_time = in_time;
   cost = λ g trace able s r job m may fresh left has. cost g trace able s r job m may fresh left has;
 }

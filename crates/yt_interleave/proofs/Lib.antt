@@ -1,3 +1,4 @@
+pub mod Lemmas
 mod Carrying
 mod Begin
 mod Determined
@@ -5,9 +6,11 @@ mod End
 mod Ends
 mod ExecutiveTicks
 mod Executives
+mod Fitting
 mod HandlerSends
 mod HandlerWrites
 mod Machines
+mod Idling
 mod NextJobs
 mod MidHandling
 mod Over
@@ -19,5 +22,6 @@ mod Shown
 mod Steps
 mod Tick
 mod Timing
+mod WaitLists
 mod Waits
 mod Whole

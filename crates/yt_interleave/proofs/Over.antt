@@ -15,7 +15,7 @@ use Rattle.yt_log.specs.Ticks.{Ticks, done, first_tick}
 use Rattle.yt_log.proofs.Lemmas.{has_sorted, sorted_has}
 use Rattle.yt_log.proofs.Lemmas.{good_item}
 use Rattle.yt_log.proofs.Lemmas.{first_is, first_stays}
-use Rattle.yt_serial.specs.declared.trace.Message.{Message}
+use Rattle.yt_trace.specs.declared.message.Message.{Message}
 use Rattle.yt_serial.specs.Beginnings.{begun_below, order_of, nth_job}
 use Rattle.yt_serial.specs.PortMessages.{PortMessage}
 use Rattle.yt_list.specs.Numbered.{numbered}

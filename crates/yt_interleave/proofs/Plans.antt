@@ -20,7 +20,7 @@ use Rattle.yt_exec.specs.StandsFor.{item_at, with_cost}
 use Rattle.yt_exec.proofs.Lemmas.{changed, changed_arrival, changed_is, changed_job, changed_no, has_from, has_with}
 use Rattle.yt_rates.specs.Rates.{period_of}
 use Rattle.yt_rates.specs.Tables.{tasks_of}
-use Rattle.yt_serial.specs.declared.trace.Message.{Message}
+use Rattle.yt_trace.specs.declared.message.Message.{Message}
 use Rattle.yt_serial.specs.Beginnings.{order_of, nth_job}
 use Rattle.yt_serial.specs.PortMessages.{PortMessage}
 use Rattle.yt_list.specs.Numbered.{numbered}

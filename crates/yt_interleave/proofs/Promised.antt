@@ -1,25 +1,33 @@
 -- What is promised of a run that is over, where its executive went by the rule.
-use Rattle.std.proofs.Common.{◌≡◌, ℕ, List, [], Option, sym, ap, subst}
+use Rattle.std.proofs.Common.{◌≡◌, ℕ, max, List, [], length, Option, sym, ap, subst}
 use Rattle.std.specs.Option.{option_map_or}
 use Rattle.yt_graph.specs.Picture.{GraphTree}
 use Rattle.yt_log.specs.declared.plan.PlanItem.{PlanItem}
 use Rattle.yt_log.specs.EdfDdm.{IsEdfDdm}
 use Rattle.yt_log.specs.Patterns.{item_before}
 use Rattle.yt_log.specs.Tasks.{Has}
+use Rattle.yt_log.specs.Ticks.{Ticks}
 use Rattle.yt_log.proofs.Lemmas.{has_sorted, sorted_has}
+use Rattle.yt_order.specs.Sorting.{sort_by}
 use Rattle.yt_rates.specs.Tables.{tasks_of}
 use Rattle.yt_serial.specs.declared.shown.OutLine.{OutLine}
-use Rattle.yt_serial.specs.declared.trace.Message.{Message}
+use Rattle.yt_trace.specs.declared.message.Message.{Message}
 use Rattle.yt_serial.specs.Premises.{IsSchedulable}
-use Rattle.yt_serial.specs.Told.{IsPromisedRun}
+use Rattle.yt_serial.specs.Beginnings.{busy_until}
+use Rattle.yt_serial.specs.Told.{IsPromisedRun, latest, line_before}
 use Rattle.yt_serial.specs.SerialHandling.{Serial, items_of, plan_of, plan_of_log}
 use Rattle.yt_serial.proofs.Lemmas.{run_rules_are_exact}
 use Rattle.yt_interleave.specs.Interleaved.{RunState}
 use Rattle.yt_interleave.specs.Laws.{HasHandledAll}
 use Rattle.yt_interleave.specs.Moves.{Interleaves, AllKnownHandled}
-use Rattle.yt_interleave.specs.Timing.{IsPlanOfRun, IsRuleLog, TellsLines}
+use Rattle.yt_interleave.specs.Timing.{IsPlanOfRun, IsRuleLog}
 use Rattle.yt_interleave.proofs.Over.{ends_are_serial}
 use Rattle.yt_interleave.proofs.Plans.{only_begun, rule_same}
+
+-- the lines are those of serial handling, in order of time and then of output, and the log ends with the last job and the last line
+pub record TellsLines (s : Serial) (log : Ticks) (lines : List OutLine) : Type 0 where
+  pub shown : lines ≡ sort_by line_before s.lines
+  pub ends : length log ≡ max (busy_until log (length log)) (latest lines)
 
 pub ends_are_promised : (g : GraphTree) (trace : List Message) → IsSchedulable g trace → (s : Serial) (r : RunState) → Interleaves g trace s r → AllKnownHandled g s r
     → (plan : List PlanItem) (due : ℕ) → IsPlanOfRun s r due plan → IsRuleLog g plan r.log → (lines : List OutLine) → TellsLines s r.log lines → IsPromisedRun g trace r.log lines

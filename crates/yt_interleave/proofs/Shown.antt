@@ -12,7 +12,7 @@ use Rattle.yt_order.specs.Sorting.{sort_by}
 use Rattle.yt_log.specs.Tasks.{Has}
 use Rattle.yt_rates.specs.Rates.{period_of}
 use Rattle.yt_serial.specs.declared.shown.OutLine.{OutLine}
-use Rattle.yt_serial.specs.declared.trace.Message.{Message}
+use Rattle.yt_trace.specs.declared.message.Message.{Message}
 use Rattle.yt_serial.specs.PortMessages.{PortMessage}
 use Rattle.yt_serial.specs.SerialHandling.{Serial, brought, shown, all_shown, start, handle_message}
 use Rattle.yt_serial.specs.Told.{line_before}

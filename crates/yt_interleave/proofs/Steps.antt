@@ -8,7 +8,7 @@ use Rattle.yt_log.specs.declared.job.Job.{Job}
 use Rattle.yt_log.specs.Ticks.{Ticks, tick, done}
 use Rattle.yt_log.proofs.Lemmas.{done-zero}
 use Rattle.yt_log.proofs.Lemmas.{jobs_none}
-use Rattle.yt_serial.specs.declared.trace.Message.{Message}
+use Rattle.yt_trace.specs.declared.message.Message.{Message}
 use Rattle.yt_serial.specs.Beginnings.{begun_below, order_of}
 use Rattle.yt_serial.specs.SerialHandling.{Serial, start, from_outside, handle_message}
 use Rattle.yt_serial.proofs.Lemmas.{begun_fresh, begun_again, begun_idle, begun_below-append, length_push, tick_last, done_before, done_this, done_other, writes_below_zero}

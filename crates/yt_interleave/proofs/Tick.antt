@@ -13,9 +13,9 @@ use Rattle.yt_log.specs.Tasks.{Has}
 use Rattle.yt_log.specs.Ticks.{Ticks, tick, done, IsWaiting, IsLawful}
 use Rattle.yt_rates.specs.Faults.{IsWithinRates}
 use Rattle.yt_cost.specs.CodeAlone.{written_before}
-use Rattle.yt_serial.specs.declared.trace.Message.{Message}
+use Rattle.yt_trace.specs.declared.message.Message.{Message}
 use Rattle.yt_serial.specs.SerialHandling.{Serial, items_of, start}
-use Rattle.yt_serial.specs.Traces.{KeepsPeriods}
+use Rattle.yt_trace.specs.Traces.{KeepsPeriods}
 use Rattle.yt_serial.specs.Variables.{after_writes, writes_at, writes_below}
 use Rattle.yt_interleave.specs.Interleaved.{ActiveJob, RunState, port_at, Uses, value_at, whole_of, item_of, with_tick, with_idle, IsActiveJob, IsInUse, IsEndedOrActive, BeginInTurn, MatchesSerial}
 use Rattle.yt_serial.specs.Beginnings.{nth_job}

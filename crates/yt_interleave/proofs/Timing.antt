@@ -15,7 +15,7 @@ use Rattle.yt_log.proofs.Lemmas.{one_item, good_item}
 use Rattle.yt_log.proofs.Lemmas.{done_grows, first_is}
 use Rattle.yt_rates.specs.Rates.{period_of}
 use Rattle.yt_rates.specs.Tables.{tasks_of}
-use Rattle.yt_serial.specs.declared.trace.Message.{Message}
+use Rattle.yt_trace.specs.declared.message.Message.{Message}
 use Rattle.yt_serial.specs.Beginnings.{order_of, nth_job}
 use Rattle.yt_serial.specs.PortMessages.{PortMessage}
 use Rattle.yt_list.specs.Numbered.{numbered}

@@ -1,7 +1,7 @@
 -- How the messages that wait for their time change.
-use Rattle.std.proofs.Common.{◌≡◌, ℕ, zero, suc, ◌+◌, ◌%◌, ◌<◌, ◌≤◌, eqb, leb, List, [], ◌∷◌, ◌++◌, length, slice_get, get_or, Option, None, Some, refl, sym, ap, subst, ◌∙◌, inl, inr, ⊎_elim, arith, append-nil, eq-eqb, ne_eqb, ◌-◌, ◌*◌, All}
+use Rattle.std.proofs.Common.{◌≡◌, ℕ, zero, suc, ◌+◌, ◌%◌, ◌<◌, ◌≤◌, eqb, List, [], ◌∷◌, ◌++◌, length, slice_get, get_or, Option, None, Some, refl, sym, ap, subst, ◌∙◌, inl, inr, ⊎_elim, arith, append-nil, eq-eqb, ne_eqb, ◌-◌, ◌*◌, All}
 use Rattle.std.specs.Option.{option_map, unwrap_or}
-use Rattle.std.proofs.lemmas.Bool.{cases_eq, cases_lt, cond-true, cond-false, le-leb, lt-leb}
+use Rattle.std.proofs.lemmas.Bool.{cases_eq, cases_lt, cond-true, cond-false}
 use Rattle.std.proofs.lemmas.List.{length-map}
 use Rattle.std.proofs.lemmas.Nat.{mul-le}
 use Rattle.std.proofs.Math.Nat.{mod-add-div}
@@ -17,7 +17,7 @@ use Rattle.yt_graph.specs.Picture.{GraphTree, PortTree}
 use Rattle.yt_log.specs.Tasks.{Has}
 use Rattle.yt_rates.specs.Rates.{every_of, period_of, gap_of}
 use Rattle.yt_serial.specs.declared.shown.OutLine.{OutLine}
-use Rattle.yt_serial.specs.declared.trace.Message.{Message}
+use Rattle.yt_trace.specs.declared.message.Message.{Message}
 use Rattle.yt_serial.specs.Beginnings.{order_of}
 use Rattle.yt_serial.specs.PortMessages.{PortMessage, messages_of}
 use Rattle.yt_list.specs.Numbered.{numbered}
@@ -26,30 +26,12 @@ use Rattle.yt_interleave.specs.Interleaved.{ActiveJob, RunState, port_at, known_
 use Rattle.yt_serial.specs.Premises.{CanRun}
 use Rattle.yt_interleave.specs.Lines.{messages_to, come_at}
 use Rattle.yt_interleave.specs.Moves.{Interleaves}
-use Rattle.yt_interleave.specs.Waits.{wait_from, MessagesWait}
+use Rattle.yt_interleave.specs.Waits.{wait_from, AreFrom, NoneComesBefore, IsThere, ComesFrom, MessagesWait}
 use Rattle.yt_interleave.proofs.Pieces.{added_at}
 use Rattle.yt_interleave.proofs.Shown.{known_rise}
 use Rattle.yt_interleave.proofs.Timing as timing
 use Rattle.yt_interleave.proofs.Timing.{passes_late}
-
-wait_yes : (t : ℕ) (m : PortMessage) (ms : List PortMessage) → t ≤ m.time → wait_from t (m ∷ ms) ≡ m ∷ wait_from t ms
-wait_yes t m ms le = cond-true (leb t m.time) (m ∷ wait_from t ms) (wait_from t ms) (le-leb t m.time le)
-
-wait_no : (t : ℕ) (m : PortMessage) (ms : List PortMessage) → m.time < t → wait_from t (m ∷ ms) ≡ wait_from t ms
-wait_no t m ms lt = cond-false (leb t m.time) (m ∷ wait_from t ms) (wait_from t ms) (lt-leb t m.time lt)
-
-wait_append : (t : ℕ) (xs ys : List PortMessage) → wait_from t (xs ++ ys) ≡ wait_from t xs ++ wait_from t ys
-wait_append t [] ys = refl
-wait_append t (x ∷ xs) ys =
-    ⊎_elim
-    (λ (lt : x.time < t). wait_no t x (xs ++ ys) lt ∙ wait_append t xs ys ∙ sym (ap (λ (zs : List PortMessage). zs ++ wait_from t ys) (wait_no t x xs lt)))
-    (λ (ge : t ≤ x.time).
-    wait_yes t x (xs ++ ys) ge ∙ ap (λ (zs : List PortMessage). x ∷ zs) (wait_append t xs ys) ∙ sym (ap (λ (zs : List PortMessage). zs ++ wait_from t ys) (wait_yes t x xs ge)))
-    (cases_lt x.time t)
-
-wait_all : (t : ℕ) (ms : List PortMessage) → ((k : ℕ) (x : PortMessage) → slice_get ms k ≡ Some x → t ≤ x.time) → wait_from t ms ≡ ms
-wait_all t [] late = refl
-wait_all t (m ∷ ms) late = wait_yes t m ms (late 0 m refl) ∙ ap (λ (zs : List PortMessage). m ∷ zs) (wait_all t ms (λ k x h. late (suc k) x h))
+use Rattle.yt_interleave.proofs.WaitLists.{none_between, wait_all, wait_append, wait_no, wait_same, wait_there, wait_yes}
 
 come_yes : (t : ℕ) (m : PortMessage) (ms : List PortMessage) → m.time ≡ t → come_at t (m ∷ ms) ≡ m ∷ come_at t ms
 come_yes t m ms e = cond-true (eqb m.time t) (m ∷ come_at t ms) (come_at t ms) (eq-eqb m.time t e)
@@ -84,7 +66,7 @@ comes_first n t (m ∷ ms) rise =
     (cases_lt m.time t)
 
 -- messages that are some ticks apart
-rise_apart : (n period : ℕ) (ms : List PortMessage) → ((i j : ℕ) (x y : PortMessage) → slice_get ms i ≡ Some x → slice_get ms j ≡ Some y → i < j → x.time + period ≤ y.time) → TimesRise (shown n ms)
+pub rise_apart : (n period : ℕ) (ms : List PortMessage) → ((i j : ℕ) (x y : PortMessage) → slice_get ms i ≡ Some x → slice_get ms j ≡ Some y → i < j → x.time + period ≤ y.time) → TimesRise (shown n ms)
 rise_apart n period [] apart = tt
 rise_apart n period (m ∷ ms) apart =
     ((λ l h. let r = in_shown ms l h in let a = apart 0 (suc r.0) m r.1 refl r.2 (omega arith) in let t = r.3 in omega arith), rise_apart n period ms (λ i j x y a b lt. apart (suc i) (suc j) x y a b (omega arith)))
@@ -153,12 +135,12 @@ module _ (g : GraphTree) (trace : List Message) (can : CanRun g trace) where
         ∙ ap (λ (ms : List PortMessage). wait_from due (messages_to r.outputs (suc k)) ++ ms) (wait_all due new (λ i x h. let late = passes_late g b (Out o.port o.out) i x h in omega arith))
 
     -- a port's known messages are its period apart
-    known_apart : (port : ℕ) (p : PortTree) → numbered g.ports port ≡ Some p → (i j : ℕ) (x y : PortMessage) → slice_get (known_at r port) i ≡ Some x → slice_get (known_at r port) j ≡ Some y → i < j → x.time + period_of g p ≤ y.time
+    pub known_apart : (port : ℕ) (p : PortTree) → numbered g.ports port ≡ Some p → (i j : ℕ) (x y : PortMessage) → slice_get (known_at r port) i ≡ Some x → slice_get (known_at r port) j ≡ Some y → i < j → x.time + period_of g p ≤ y.time
     known_apart port p there i j x y a b lt =
         (timing.serial g trace can s r is).spread port p there i j x y
         (timing.known_first g trace can s r is port (suc i) x a) (timing.known_first g trace can s r is port (suc j) y b) lt
 
-    no_messages : (port : ℕ) → numbered g.ports port ≡ None → known_at r port ≡ []
+    pub no_messages : (port : ℕ) → numbered g.ports port ≡ None → known_at r port ≡ []
     no_messages zero e = refl
     no_messages (suc k) e =
         ⊎_elim
@@ -187,6 +169,39 @@ module _ (g : GraphTree) (trace : List Message) (can : CanRun g trace) where
     output_comes n t =
         comes_first n t (messages_to r.outputs n)
         (known_rise g s r is.lines (lines_hold g can.well_formed can.rates trace can.keeps (order_of r.log) s is.stands.along) n)
+
+    -- what waits is known, and handled or not it is in serial handling
+    there : (port t k : ℕ) (m : PortMessage) → slice_get (wait_from t (known_at r port)) k ≡ Some m → IsThere s r port t m
+    there port t k m h =
+        let w = wait_there t (known_at r port) k m h in
+        record { number = suc w.0; known = w.1; serial = timing.known_first g trace can s r is port (suc w.0) m w.1; late = w.2 }
+
+    from : (port t k : ℕ) (p : PortTree) (m : PortMessage) → numbered g.ports port ≡ Some p → slice_get (wait_from t (known_at r port)) k ≡ Some m → ComesFrom g trace s p.feed m
+    from port t k p m is_port h = by p.feed refl
+      where
+        place : (i : ℕ) × (slice_get (known_at r port) i ≡ Some m) × (t ≤ m.time)
+        place = wait_there t (known_at r port) k m h
+
+        by : (f : Feed) → p.feed ≡ f → ComesFrom g trace s f m
+        by (Input i) fed = (place.0, subst (λ (ms : List PortMessage). slice_get ms place.0 ≡ Some m) (input_at port p i is_port fed) place.1)
+        by (Out source out) fed = λ q at_q.
+            let serial = timing.serial g trace can s r is in
+            let of = serial.comes port p source out q is_port fed at_q place.0 m (timing.known_first g trace can s r is port (suc place.0) m place.1) in
+            record { number = of.number; sender = of.message; handled = of.handled; there = of.there; passes = of.multiple; ends = of.ends }
+
+    apart : (port k n : ℕ) (p : PortTree) (x m : PortMessage) → numbered g.ports port ≡ Some p → numbered (known_at r port) k ≡ Some x → numbered (known_at r port) n ≡ Some m → k < n → x.time + period_of g p ≤ m.time
+    apart port k n p x m is_port a b lt =
+        let first = timing.known_first g trace can s r is in
+        timing.apart g trace can s r is port k n p x m is_port (first port k x a) (first port n m b) lt
+
+-- where none comes before a later tick, the same wait from it on
+later : (r : RunState) (due t : ℕ) → due ≤ t → NoneComesBefore r due t
+    → ((port : ℕ) → wait_from t (known_at r port) ≡ wait_from due (known_at r port)) × ((n : ℕ) → wait_from t (messages_to r.outputs n) ≡ wait_from due (messages_to r.outputs n))
+later r due t le none =
+    ((λ port. same (known_at r port) (none.ports port)), (λ n. same (messages_to r.outputs n) (none.outputs n)))
+  where
+    same : (ms : List PortMessage) → AreFrom t (wait_from due ms) → wait_from t ms ≡ wait_from due ms
+    same ms from = wait_same due t ms le (none_between due t ms from)
 
 gap_some : (g : GraphTree) → All (IsWithinRates g) g.ports → (port out : ℕ) (p : PortTree) → numbered g.ports port ≡ Some p → 1 ≤ out → out ≤ length p.outs → 1 ≤ gap_of g p out
 gap_some g rates zero out p there some most = absurd (none-some p there)
@@ -217,6 +232,10 @@ old_come g trace can s r is port n earlier last j p m first out there at at_firs
 pub messages_wait : MessagesWait
 messages_wait = record {
   input = λ g trace can s r is port p i there feed. input_at g trace can s r is port p i there feed;
+  there = λ g trace can s r is port t k m h. there g trace can s r is port t k m h;
+  from = λ g trace can s r is port t k p m is_port h. from g trace can s r is port t k p m is_port h;
+  apart = λ g trace can s r is port k n p x m is_port a b lt. apart g trace can s r is port k n p x m is_port a b lt;
+  later = later;
   at_port = λ g trace can s r is b due le port p there. at_port g trace can s r is b due le port p there;
   at_output = λ g trace can s r is b due le n o there. at_output g trace can s r is b due le n o there;
   port_comes = λ g trace can s r is port t. port_comes g trace can s r is port t;

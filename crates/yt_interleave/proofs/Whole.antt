@@ -1,5 +1,5 @@
 -- A run goes on through each kind of tick, and comes to what is promised.
-use Rattle.std.proofs.Common.{◌≡◌, ℕ, suc, ◌+◌, ◌<◌, ◌≤◌, max, List, [], ◌∷◌, ◌++◌, length, Option, None, Some, refl, sym, ap, subst, ◌∙◌, ⊎_elim, arith}
+use Rattle.std.proofs.Common.{◌≡◌, ℕ, suc, ◌+◌, ◌<◌, ◌≤◌, max, List, [], ◌∷◌, ◌++◌, length, replicate, Option, None, Some, refl, sym, ap, subst, ◌∙◌, ⊎_elim, arith}
 use Rattle.std.specs.Option.{unwrap_or}
 use Rattle.std.proofs.lemmas.Bool.{cases_eq, cases_lt}
 use Rattle.yt_graph.specs.Picture.{GraphTree, PortTree}
@@ -15,7 +15,7 @@ use Rattle.yt_exec.specs.StandsFor.{with_cost}
 use Rattle.yt_rates.specs.Rates.{period_of}
 use Rattle.yt_rates.specs.Tables.{tasks_of}
 use Rattle.yt_serial.specs.declared.shown.OutLine.{OutLine}
-use Rattle.yt_serial.specs.declared.trace.Message.{Message}
+use Rattle.yt_trace.specs.declared.message.Message.{Message}
 use Rattle.yt_serial.specs.Beginnings.{order_of, busy_until}
 use Rattle.yt_serial.specs.PortMessages.{PortMessage}
 use Rattle.yt_list.specs.Numbered.{numbered}
@@ -23,14 +23,16 @@ use Rattle.yt_serial.specs.SerialHandling.{Serial, shown, start, handle_message}
 use Rattle.yt_graph.specs.Labels.{no_port}
 use Rattle.yt_serial.specs.Told.{latest, IsPromisedRun}
 use Rattle.yt_serial.proofs.Lemmas.{port_there, length_push, tick_last, done_before, lines_hold}
-use Rattle.yt_interleave.specs.Interleaved.{ActiveJob, RunState, port_at, group_at, known_at, whole_of, item_of, first_state, with_begun, with_tick, with_idle}
+use Rattle.yt_interleave.specs.Interleaved.{ActiveJob, RunState, port_at, group_at, known_at, whole_of, item_of, first_state, with_begun, with_tick, with_idle, with_idles}
 use Rattle.yt_serial.specs.Lines.{lines_of}
 use Rattle.yt_interleave.specs.Lines.{come_before, HasShown, KnowsLines}
 use Rattle.yt_interleave.specs.Moves.{MayBegin, after_tick, active_job, Interleaves, AllKnownHandled, IsResourceFree}
 use Rattle.yt_serial.specs.Premises.{IsSchedulable}
 use Rattle.yt_interleave.specs.Runs.{IsRunning, AreReleased, AreShownNow, AllShown, RunsGoOn, RunsAreOnTime}
 use Rattle.yt_interleave.specs.Timing.{HasEnded, IsOnTime, WaitsToBegin, IsPlanOfRun, IsRuleLog}
+use Rattle.yt_interleave.specs.Waits.{NoneComesBefore}
 use Rattle.yt_interleave.proofs.Executives.{group_is}
+use Rattle.yt_interleave.proofs.Idling.{idles_keep_serial, idles_plan, idles_shown}
 use Rattle.yt_interleave.proofs.Plans as plans
 use Rattle.yt_interleave.proofs.Promised.{ends_are_promised}
 use Rattle.yt_interleave.proofs.Shown.{shows, still_shown, all_are_shown, knows_begun, before_late}
@@ -199,6 +201,16 @@ idles g trace able s r plan lines is by = record {
   shown = record { order = is.shown.order; each = is.shown.each };
 }
 
+idles_on : (g : GraphTree) (trace : List Message) → IsSchedulable g trace → (s : Serial) (r : RunState) (due : ℕ) (plan : List PlanItem) (lines : List OutLine)
+    → IsRunning g trace s r due plan lines → (count : ℕ) → due ≤ length r.log + count → NoneComesBefore r due (length r.log + count)
+    → IsRuleLog g plan (r.log ++ replicate count None) → IsRunning g trace s (with_idles count r) (length r.log + count) plan lines
+idles_on g trace able s r due plan lines is count le none by = record {
+  interleaves = idles_keep_serial g trace able.can s count r is.interleaves;
+  goes = idles_plan r due (length r.log + count) le none s count plan is.goes;
+  by = by;
+  shown = idles_shown r due (length r.log + count) le none count lines is.shown;
+}
+
 ends : (g : GraphTree) (trace : List Message) → IsSchedulable g trace → (s : Serial) (r : RunState) (due : ℕ) (plan : List PlanItem) (lines : List OutLine)
     → IsRunning g trace s r due plan lines → AllKnownHandled g s r → AllShown r due → length r.log ≡ max (busy_until r.log (length r.log)) (latest lines) → IsPromisedRun g trace r.log lines
 ends g trace able s r due plan lines is over come end =
@@ -213,6 +225,7 @@ runs_go_on = record {
   begins = begins;
   ticks = ticks;
   idles = idles;
+  idles_on = idles_on;
   grows = grows;
   ends = ends;
 }

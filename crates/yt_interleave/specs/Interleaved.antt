@@ -1,5 +1,5 @@
 -- Interleaved handling: several messages are handled at once, at most one of each port.
-use Rattle.std.specs.Prelude.{◌≡◌, ℕ, ◌<◌, ◌≤◌, ◌==◌, ◌⊎◌, ℤ, pos, List, [], ◌∷◌, ◌++◌, map, length, slice_index_or, Option, Some, None, if◌then◌else◌}
+use Rattle.std.specs.Prelude.{◌≡◌, ℕ, ◌<◌, ◌≤◌, ◌==◌, ◌⊎◌, ℤ, pos, List, [], ◌∷◌, ◌++◌, map, length, replicate, slice_index_or, Option, Some, None, if◌then◌else◌}
 use Rattle.std.specs.List.{Contains}
 use Rattle.std.specs.Option.{unwrap_or}
 use Rattle.yt_graph.specs.declared.port.Feed as feed
@@ -12,7 +12,7 @@ use Rattle.yt_log.specs.Tasks.{Has}
 use Rattle.yt_log.specs.Ticks.{Ticks, tick, done, IsLawful}
 use Rattle.yt_cost.specs.CodeAlone.{written_before}
 use Rattle.yt_cost.specs.CodeVars.{port_vars}
-use Rattle.yt_serial.specs.declared.trace.Message.{Message}
+use Rattle.yt_trace.specs.declared.message.Message.{Message}
 use Rattle.yt_serial.specs.PortMessages.{PortMessage, passed}
 use Rattle.yt_list.specs.Numbered.{numbered}
 use Rattle.yt_serial.specs.SerialHandling.{Serial, messages_at, items_of, handled_of, start, brought, placed, serial_run}
@@ -119,6 +119,10 @@ with_tick g b r = record r {
 -- an idle tick
 abbrev pub with_idle : RunState → RunState
 with_idle r = record r { log = r.log ++ None ∷ [] }
+
+-- so many idle ticks
+abbrev pub with_idles : ℕ → RunState → RunState
+with_idles count r = record r { log = r.log ++ replicate count None }
 
 -- a job has ended: its messages get their times, and wait from now on
 abbrev pub with_end : GraphTree → ActiveJob → RunState → RunState

@@ -11,7 +11,7 @@ use Rattle.yt_cost.specs.CodeAlone.{Progress, ticks_alone, begin_alone, MeansPor
 use Rattle.yt_cost.specs.CodeVars.{instrs_vars, AgreeAt, UsesVarsOf}
 use Rattle.yt_log.specs.declared.job.Job.{Job}
 use Rattle.yt_log.specs.Ticks.{done}
-use Rattle.yt_serial.specs.declared.trace.Message.{Message}
+use Rattle.yt_trace.specs.declared.message.Message.{Message}
 use Rattle.yt_serial.specs.PortMessages.{PortMessage}
 use Rattle.yt_serial.specs.SerialHandling.{Serial}
 use Rattle.yt_serial.specs.Variables.{after_writes, writes_at}

@@ -8,18 +8,19 @@ use Rattle.yt_log.specs.Ticks.{Ticks}
 use Rattle.yt_exec.specs.StandsFor.{with_cost}
 use Rattle.yt_rates.specs.Rates.{within_of}
 use Rattle.yt_serial.specs.declared.shown.OutLine.{OutLine}
-use Rattle.yt_serial.specs.declared.trace.Message.{Message}
+use Rattle.yt_trace.specs.declared.message.Message.{Message}
 use Rattle.yt_serial.specs.Beginnings.{busy_until, nth_job}
 use Rattle.yt_serial.specs.PortMessages.{PortMessage}
 use Rattle.yt_list.specs.Numbered.{numbered}
 use Rattle.yt_serial.specs.SerialHandling.{Serial, messages_at, handled_of, shown, start, handle_message, handled_along}
 use Rattle.yt_serial.specs.Told.{latest, IsPromisedRun}
-use Rattle.yt_interleave.specs.Interleaved.{ActiveJob, RunState, known_at, whole_of, first_state, with_begun, with_idle}
+use Rattle.yt_interleave.specs.Interleaved.{ActiveJob, RunState, known_at, whole_of, first_state, with_begun, with_idle, with_idles}
 use Rattle.yt_serial.specs.Variables.{variables_at}
 use Rattle.yt_serial.specs.Lines.{lines_of, AreInLineOrder}
 use Rattle.yt_interleave.specs.Lines.{messages_to, come_at, HasShown}
 use Rattle.yt_interleave.specs.Moves.{MayBegin, after_tick, active_job, Interleaves, AllKnownHandled, IsResourceFree}
 use Rattle.yt_interleave.specs.Timing.{HasEnded, IsOnTime, WaitsToBegin, IsPlanOfRun, IsRuleLog}
+use Rattle.yt_interleave.specs.Waits.{NoneComesBefore}
 use Rattle.yt_serial.specs.Premises.{IsSchedulable}
 
 -- a run between two ticks: what came before `due` is placed, released and shown
@@ -69,6 +70,11 @@ pub record RunsGoOn : Type 0 where
       (g : GraphTree) (trace : List Message) → IsSchedulable g trace → (s : Serial) (r : RunState) (plan : List PlanItem) (lines : List OutLine) →
       IsRunning g trace s r (suc (length r.log)) plan lines →
       IsRuleLog g plan (r.log ++ None ∷ []) → IsRunning g trace s (with_idle r) (suc (length r.log)) plan lines
+  -- where no known message comes before a later tick, the run idles up to it
+  pub idles_on :
+      (g : GraphTree) (trace : List Message) → IsSchedulable g trace → (s : Serial) (r : RunState) (due : ℕ) (plan : List PlanItem) (lines : List OutLine) →
+      IsRunning g trace s r due plan lines → (count : ℕ) → due ≤ length r.log + count → NoneComesBefore r due (length r.log + count) →
+      IsRuleLog g plan (r.log ++ replicate count None) → IsRunning g trace s (with_idles count r) (length r.log + count) plan lines
   pub grows : (g : GraphTree) (b : ActiveJob) (r : RunState) → (after_tick g b r).log ≡ r.log ++ Some b.job ∷ []
   pub ends :
       (g : GraphTree) (trace : List Message) → IsSchedulable g trace → (s : Serial) (r : RunState) (due : ℕ) (plan : List PlanItem) (lines : List OutLine) →

@@ -1,21 +1,18 @@
 -- What kept deadlines give an interleaved run, and the plan of its executive.
-use Rattle.std.specs.Prelude.{◌≡◌, ℕ, ◌+◌, ◌<◌, ◌≤◌, max, List, length, Some}
+use Rattle.std.specs.Prelude.{◌≡◌, ℕ, ◌+◌, ◌<◌, ◌≤◌, List, length, Some}
 use Rattle.yt_graph.specs.Picture.{GraphTree, PortTree}
 use Rattle.yt_log.specs.declared.job.Job.{Job}
 use Rattle.yt_log.specs.declared.plan.PlanItem.{PlanItem}
 use Rattle.yt_log.specs.EdfDdm.{IsEdfDdm}
-use Rattle.yt_order.specs.Sorting.{sort_by}
 use Rattle.yt_log.specs.Plan.{IsLegal}
 use Rattle.yt_log.specs.Tasks.{Has}
 use Rattle.yt_log.specs.Ticks.{Ticks, done}
 use Rattle.yt_rates.specs.Rates.{within_of}
 use Rattle.yt_rates.specs.Tables.{tasks_of}
-use Rattle.yt_serial.specs.declared.shown.OutLine.{OutLine}
-use Rattle.yt_serial.specs.Beginnings.{busy_until, nth_job}
+use Rattle.yt_serial.specs.Beginnings.{nth_job}
 use Rattle.yt_serial.specs.PortMessages.{PortMessage}
 use Rattle.yt_list.specs.Numbered.{numbered}
 use Rattle.yt_serial.specs.SerialHandling.{Serial, items_of, handled_of}
-use Rattle.yt_serial.specs.Told.{line_before, latest}
 use Rattle.yt_interleave.specs.Interleaved.{ActiveJob, RunState, known_at}
 
 -- the handling of a port's message of a number has ended
@@ -46,8 +43,3 @@ pub record IsPlanOfRun (s : Serial) (r : RunState) (due : ℕ) (plan : List Plan
 pub record IsRuleLog (g : GraphTree) (plan : List PlanItem) (log : Ticks) : Type 0 where
   pub legal : IsLegal (tasks_of g) plan
   pub rule : IsEdfDdm (tasks_of g) plan log
-
--- the lines are those of serial handling, in order of time and then of output, and the log ends with the last job and the last line
-pub record TellsLines (s : Serial) (log : Ticks) (lines : List OutLine) : Type 0 where
-  pub shown : lines ≡ sort_by line_before s.lines
-  pub ends : length log ≡ max (busy_until log (length log)) (latest lines)

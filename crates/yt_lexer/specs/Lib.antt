@@ -1,4 +1,5 @@
-pub mod Limits
 pub mod Places
 pub mod First
 pub mod Lexes
+-- How tokens are looked for.
+pub mod Inside

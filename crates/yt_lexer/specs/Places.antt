@@ -1,5 +1,5 @@
 -- The places of a text: lines and columns from 1, columns in bytes.
-use Rattle.std.specs.Prelude.{ℕ, ◌+◌, List, [], ◌∷◌, length, take, ◌≡◌, ◌≤◌, if◌then◌else◌}
+use Rattle.std.specs.Prelude.{ℕ, ◌+◌, List, [], ◌∷◌, take, if◌then◌else◌}
 use Rattle.yt_base.specs.Lines.{is_feed}
 use Rattle.yt_graph.specs.declared.place.Place.{Place}
 
@@ -15,7 +15,3 @@ place_after p (b ∷ bs) = place_after (next_place p b) bs
 -- the place of the byte that so many bytes stand before, and of the end of the text
 abbrev pub place_of : List ℕ → ℕ → Place
 place_of text at = place_after (record { line = 1; col = 1 }) (take at text)
-
--- a place in a text by its number of bytes and its line and column
-abbrev pub IsSpot : List ℕ → ℕ → Place → Type 0
-IsSpot text at place = (at ≤ length text) × (place ≡ place_of text at)

@@ -2,8 +2,8 @@
 ghost use Rattle.std.specs.Prelude.{◌≡◌, ◌≤◌, ◌<◌, ◌+◌, None, length, IfOk, IfErr, List, Option};
 ghost use Rattle.yt_lexer.specs.declared.token.Token.{Token};
 ghost use Rattle.yt_lexer.specs.declared.token.LexFault.{LexFault};
-ghost use Rattle.yt_lexer.specs.Limits.{most_text_bytes};
-ghost use Rattle.yt_lexer.specs.Places.{IsSpot};
+ghost use Rattle.yt_base.specs.Limits.{most_text_bytes};
+ghost use Rattle.yt_lexer.specs.Inside.Spots.{IsSpot};
 ghost use Rattle.yt_lexer.specs.Lexes.{IsTokenAt, IsFaultAt, Lexes, IsFirstFault, Gives};
 
 use crate::blanks::blank_len;

@@ -1,6 +1,6 @@
 //! The line and the column behind bytes.
 ghost use Rattle.std.specs.Prelude.{◌≡◌, ◌≤◌, ◌<◌, ◌+◌, ◌^◌, length};
-ghost use Rattle.yt_lexer.specs.Limits.{most_text_bytes};
+ghost use Rattle.yt_base.specs.Limits.{most_text_bytes};
 ghost use Rattle.yt_lexer.specs.Places.{next_place, place_after, place_of};
 
 use yt_graph::Place;

@@ -1,10 +1,12 @@
 -- Where the blocking condition fails, a plan misses: the blocker runs alone at 0, keeps its resource, and all that arrives after it is due too soon.
 use Rattle.std.proofs.Common.{◌≡◌, ℕ, suc, ◌+◌, ◌-◌, ◌*◌, ◌/◌, ◌<◌, ◌≤◌, Bool, true, not, cond, eqb, List, length, Option, Some, None, refl, sym, ap, subst, ◌∙◌, ⊎_elim, arith, eq-eqb, ne_eqb}
+use Rattle.std.specs.Prelude.{IsSomeAnd}
 use Rattle.std.proofs.lemmas.Bool.{cases_lt, cases_eq, eqb-false, cond-true, cond-false, not-true, not_from_false}
 use Rattle.std.proofs.lemmas.Nat.{le-div}
 use Rattle.std.proofs.Math.Nat.{div-eq_of_lt}
 use Rattle.yt_set.specs.declared.task.Task.{Task}
-use Rattle.yt_set.specs.Tasks.{within, jobs_due}
+use Rattle.yt_set.specs.Tasks.{LacksRoom, floor_of, within, jobs_due}
+use Rattle.yt_set.proofs.Lemmas.{number_bounds}
 use Rattle.yt_log.specs.declared.job.Job.{Job}
 use Rattle.yt_log.specs.declared.plan.PlanItem.{PlanItem}
 use Rattle.yt_log.specs.Tasks.{Has, task_of}
@@ -18,7 +20,7 @@ use Rattle.yt_log.proofs.Ticks.{done-zero, done_yes, done_grows, first_is}
 use Rattle.yt_log.proofs.Totals.{total, total_le, total_has, total_join}
 use Rattle.yt_log.proofs.Plans.{good_item}
 use Rattle.yt_log.proofs.Appends.{some_item}
-use Rattle.yt_log.proofs.Demands.{of, of_parts, of_from, its_cost, has_task, task_of-suc, deadline_is, has_number}
+use Rattle.yt_log.proofs.Demands.{of, of_parts, of_from, its_cost, has_task, task_of-suc, deadline_is, has_number, task_read}
 use Rattle.yt_log.proofs.PatternPlans.{planned, IsPlanOf}
 use Rattle.yt_log.proofs.Capacity.{distinct, anything, capacity, task_total, has_demand, above_zero, due_room, miss_or_done}
 
@@ -191,7 +193,8 @@ module _ (tasks : List Task) (set : AreUsable tasks) (i : ℕ) (from_one : 1 ≤
   sharer =
       let f = floor_is tasks (task_of tasks i).resource (within (task_of tasks i)) (omega arith) in
       let n = has_number tasks f.task f.has in
-      sharer_of n.0 f.task n.1 n.2 n.3 f.resource f.least
+      let bounds = number_bounds tasks n.0 f.task n.1 in
+      sharer_of n.0 f.task bounds.0 bounds.1 (task_read tasks n.0 f.task n.1) f.resource f.least
 
   module _ (log : Ticks) (long : span ≤ length log) (lawful : IsLawful plan log) (conserving : IsWorkConserving plan log) (exclusive : IsExclusive tasks plan log) where
     begins : Begins log
@@ -242,22 +245,33 @@ module _ (tasks : List Task) (set : AreUsable tasks) (i : ℕ) (from_one : 1 ≤
         absurd (omega arith))
         (miss_or_done tasks log span plan)
 
+floor_below : (o : Option ℕ) (span : ℕ) → IsSomeAnd o (λ floor. floor < span) → (floor : ℕ) × (o ≡ Some floor) × (floor < span)
+floor_below None span h = absurd h
+floor_below (Some floor) span h = (floor, refl, h)
+
 pub blockers : BlockersMiss
-blockers tasks set i a b floor span is above below over =
+blockers tasks set i task there span lacks =
     let τ = task_of tasks i in
+    let bounds = number_bounds tasks i task there in
+    let a = bounds.0 in
+    let b = bounds.1 in
+    let here : LacksRoom tasks span τ = subst (λ (t : Task). LacksRoom tasks span t) (sym (task_read tasks i task there)) lacks in
+    let floor = floor_below (floor_of tasks τ.resource) span here.0 in
     let has = has_task tasks i a b in
     let held : 0 < τ.resource =
     ⊎_elim
-    (λ (z : τ.resource ≡ 0). let none = floor_none tasks τ.resource z in let both : None ≡ Some floor = sym none ∙ is in cc)
+    (λ (z : τ.resource ≡ 0). let none = floor_none tasks τ.resource z in let both : None ≡ Some floor.0 = sym none ∙ floor.1 in cc)
     (λ (nz : τ.resource ≡ 0 → ⊥). omega arith)
     (cases_eq τ.resource 0) in
-    let at : Some (floor_at tasks τ) ≡ Some floor = sym (floor_some tasks τ has held) ∙ is in
-    let same : floor_at tasks τ ≡ floor = cc in
+    let at : Some (floor_at tasks τ) ≡ Some floor.0 = sym (floor_some tasks τ has held) ∙ floor.1 in
+    let same : floor_at tasks τ ≡ floor.0 = cc in
+    let above = floor.2 in
     let low : floor_at tasks τ < span = omega arith in
     let d = demand_is tasks (span - 1) in
+    let over = here.2 in
     let more : span < τ.cost + demand tasks (span - 1) = omega arith in
     let ok = usable tasks set in
     record {
-      legal = (made tasks ok i a b held span low below more).legal;
-      misses = λ log long lawful conserving exclusive. blocker_misses tasks ok i a b held span low below more log long lawful conserving exclusive;
+      legal = (made tasks ok i a b held span low here.1 more).legal;
+      misses = λ log long lawful conserving exclusive. blocker_misses tasks ok i a b held span low here.1 more log long lawful conserving exclusive;
     }

@@ -1,6 +1,6 @@
--- Before a job begins its cost doesn't matter to the rule.
+-- Until a job is done its cost doesn't matter to the rule.
 use Rattle.std.proofs.Common.{◌≡◌, ℕ, ◌≤◌, true, false, cond, ltb, List, [], ◌∷◌, length, Option, Some, None, refl, sym, ap, ap₂, subst, ◌∙◌, ⊎_elim, arith, lt-ltb}
-use Rattle.std.proofs.lemmas.Bool.{cases_Bool, cases_eq, cond-true, cond-false}
+use Rattle.std.proofs.lemmas.Bool.{cases_Bool, cond-true, cond-false}
 use Rattle.yt_set.specs.declared.task.Task.{Task}
 use Rattle.yt_log.specs.declared.job.Job.{Job}
 use Rattle.yt_log.specs.declared.plan.PlanItem.{PlanItem}
@@ -8,7 +8,7 @@ use Rattle.yt_log.specs.Plan.{deadline_of}
 use Rattle.yt_log.specs.Ticks.{Ticks, done}
 use Rattle.yt_log.specs.EdfDdm.{current_deadline, rank, waits, sooner, least, job_of, choice}
 use Rattle.yt_order.specs.Words.{precedes}
-use Rattle.yt_log.specs.Laws.{IsLike, AreLike, CostsWait}
+use Rattle.yt_log.specs.Laws.{IsUnfinished, IsSameSoFar, AreSameSoFar, RuleIsNonClairvoyant}
 use Rattle.yt_log.proofs.Ticks.{done_grows}
 
 -- the rank doesn't go by the cost
@@ -18,26 +18,21 @@ rank_like tasks log t a b j e =
     let at : Job → ℕ → PlanItem = λ job arrival. record { job = job; arrival = arrival; cost = 0 } in
     ap₂ (λ (job : Job) (arrival : ℕ). rank tasks log t (at job arrival)) j e
 
--- neither does whether an item waits, where its job has not begun
-waits_like : (log : Ticks) (t : ℕ) (a b : PlanItem) → IsLike log a b → t ≤ length log → waits log t a ≡ waits log t b
+-- neither does whether an item waits, where its job isn't done
+waits_like : (log : Ticks) (t : ℕ) (a b : PlanItem) → IsSameSoFar log a b → t ≤ length log → waits log t a ≡ waits log t b
 unfolding waits
 waits_like log t a b like le =
     let j = like.job in
     let e = like.arrival in
     ⊎_elim
-    (λ (z : done log a.job (length log) ≡ 0).
-    let g = done_grows log a.job t (length log) le in
-    let h : done log b.job t ≡ done log a.job t = ap (λ (k : Job). done log k t) (sym j) in
-    let some = like.some in
-    let sa = some.0 in
-    let sb = some.1 in
-    let x : ltb (done log a.job t) a.cost ≡ true = lt-ltb (done log a.job t) a.cost (omega arith) in
-    let y : ltb (done log b.job t) b.cost ≡ true = lt-ltb (done log b.job t) b.cost (omega arith) in
+    (λ (c : a.cost ≡ b.cost). cc)
+    (λ (u : IsUnfinished log a × IsUnfinished log b).
+    let p = done_grows log a.job t (length log) le in
+    let q = done_grows log b.job t (length log) le in
+    let x : ltb (done log a.job t) a.cost ≡ true = lt-ltb (done log a.job t) a.cost (omega (arith, p, u.0)) in
+    let y : ltb (done log b.job t) b.cost ≡ true = lt-ltb (done log b.job t) b.cost (omega (arith, q, u.1)) in
     cc)
-    (λ (nz : done log a.job (length log) ≡ 0 → ⊥).
-    let c = like.cost (omega arith) in
-    cc)
-    (cases_eq (done log a.job (length log)) 0)
+    like.cost
 
 module _ (key : PlanItem → List ℕ) where
   -- two items of one job and one rank, or none
@@ -73,7 +68,7 @@ module _ (key : PlanItem → List ℕ) where
   same_job_of (Some r) None h = absurd h
   same_job_of (Some r) (Some s) h = ap (λ (j : Job). Some j) h.0
 
-least_like : (tasks : List Task) (log : Ticks) (t : ℕ) → t ≤ length log → (xs ys : List PlanItem) → AreLike log xs ys →
+least_like : (tasks : List Task) (log : Ticks) (t : ℕ) → t ≤ length log → (xs ys : List PlanItem) → AreSameSoFar log xs ys →
     Same (rank tasks log t) (least (rank tasks log t) (waits log t) xs) (least (rank tasks log t) (waits log t) ys)
 unfolding least
 least_like tasks log t le [] [] like = tt
@@ -99,13 +94,13 @@ least_like tasks log t le (x ∷ xs) (y ∷ ys) like =
     subst (λ (z : Option PlanItem). Same key z (cond (p y) (Some (sooner key y o')) o')) (sym u) (subst (λ (z : Option PlanItem). Same key o z) (sym v) rest))
     (cases_Bool (p x))
 
-choice_like : (tasks : List Task) (plan other : List PlanItem) (log : Ticks) → AreLike log plan other → (t : ℕ) → t ≤ length log → choice tasks plan log t ≡ choice tasks other log t
+choice_like : (tasks : List Task) (plan other : List PlanItem) (log : Ticks) → AreSameSoFar log plan other → (t : ℕ) → t ≤ length log → choice tasks plan log t ≡ choice tasks other log t
 unfolding choice
 choice_like tasks plan other log like t le =
     same_job_of (rank tasks log t) (least (rank tasks log t) (waits log t) plan) (least (rank tasks log t) (waits log t) other) (least_like tasks log t le plan other like)
 
-pub costs_wait : CostsWait
-costs_wait = record {
+pub rule_is_non_clairvoyant : RuleIsNonClairvoyant
+rule_is_non_clairvoyant = record {
   choice = choice_like;
   rule = λ tasks plan other log like rule t lt. rule t lt ∙ choice_like tasks plan other log like t (omega arith);
 }

@@ -1,6 +1,8 @@
 -- The jobs of a legal plan that arrive at x or later and are due by t cost no more than the demand of t - x.
-use Rattle.std.proofs.Common.{◌≡◌, ℕ, zero, suc, ◌+◌, ◌-◌, ◌*◌, ◌/◌, ◌<◌, ◌≤◌, Bool, true, false, ◌&&◌, eqb, leb, ltb, List, [], ◌∷◌, length, get_or, refl, sym, ap, subst, ◌∙◌, inl, inr, ⊎_elim, arith, eqb-true, eq-eqb, ltb-true, lt-ltb, leb-true, le-leb}
+use Rattle.std.proofs.Common.{◌≡◌, ℕ, zero, suc, ◌+◌, ◌-◌, ◌*◌, ◌/◌, ◌<◌, ◌≤◌, Bool, true, false, ◌&&◌, eqb, leb, ltb, List, [], ◌∷◌, length, get_or, Some, refl, sym, ap, subst, ◌∙◌, inl, inr, ⊎_elim, arith, eqb-true, eq-eqb, ltb-true, lt-ltb, leb-true, le-leb}
 use Rattle.std.proofs.lemmas.Bool.{cases_Bool, cases_eq, and_parts, and_from}
+use Rattle.std.proofs.lemmas.Option.{get_or_from_slice_get, none-some}
+use Rattle.yt_list.specs.Numbered.{numbered}
 use Rattle.yt_set.specs.declared.task.Task.{Task}
 use Rattle.yt_set.specs.Tasks.{within}
 use Rattle.yt_log.specs.declared.plan.PlanItem.{PlanItem}
@@ -183,18 +185,20 @@ due_cost tasks set plan legal x t le =
     subst P (task_of-suc tasks m) (omega arith)) in
     omega arith
 
+-- the task that a set has at a number
+pub task_read : (tasks : List Task) (n : ℕ) (task : Task) → numbered tasks n ≡ Some task → task_of tasks n ≡ task
+task_read tasks zero task at = absurd (none-some task at)
+task_read tasks (suc n) task at = task_of-suc tasks n ∙ get_or_from_slice_get tasks n task no_task at
+
 -- a task's number
-pub has_number : (tasks : List Task) (task : Task) → Has tasks task → (n : ℕ) × (1 ≤ n) × (n ≤ length tasks) × (task_of tasks n ≡ task)
+pub has_number : (tasks : List Task) (task : Task) → Has tasks task → (n : ℕ) × (numbered tasks n ≡ Some task)
 has_number [] task is = absurd is
 has_number (x ∷ xs) task is =
     ⊎_elim
-    (λ (e : task ≡ x). (1, omega arith, omega arith, task_of-suc (x ∷ xs) 0 ∙ sym e))
-    (λ (k : Has xs task). number_more x xs task (has_number xs task k))
+    (λ (e : task ≡ x). (1, ap (λ (t : Task). Some t) (sym e)))
+    (λ (k : Has xs task). let r = has_number xs task k in number_more r.0 r.1)
     is
   where
-    number_from : (x : Task) (xs : List Task) (task : Task) (n : ℕ) → 1 ≤ n → n ≤ length xs → task_of xs n ≡ task → (m : ℕ) × (1 ≤ m) × (m ≤ length (x ∷ xs)) × (task_of (x ∷ xs) m ≡ task)
-    number_from x xs task zero a b e = absurd (omega arith)
-    number_from x xs task (suc n) a b e = (suc (suc n), omega arith, omega arith, task_of-suc (x ∷ xs) (suc n) ∙ sym (task_of-suc xs n) ∙ e)
-
-    number_more : (x : Task) (xs : List Task) (task : Task) → (n : ℕ) × (1 ≤ n) × (n ≤ length xs) × (task_of xs n ≡ task) → (m : ℕ) × (1 ≤ m) × (m ≤ length (x ∷ xs)) × (task_of (x ∷ xs) m ≡ task)
-    number_more x xs task r = number_from x xs task r.0 r.1 r.2 r.3
+    number_more : (n : ℕ) → numbered xs n ≡ Some task → (m : ℕ) × (numbered (x ∷ xs) m ≡ Some task)
+    number_more zero at = absurd (none-some task at)
+    number_more (suc n) at = (suc (suc n), at)

@@ -1,18 +1,17 @@
 -- A set fits exactly where no legal plan must miss.
-use Rattle.std.proofs.Common.{◌≡◌, ℕ, zero, suc, ◌+◌, ◌-◌, ◌<◌, ◌≤◌, ◌⊎◌, List, [], ◌∷◌, Option, Some, None, refl, sym, subst, ◌∙◌, inl, inr, ⊎_elim, arith}
+use Rattle.std.proofs.Common.{◌≡◌, ℕ, zero, suc, ◌<◌, ◌≤◌, ◌⊎◌, List, [], ◌∷◌, Option, Some, None, refl, subst, inl, inr, ⊎_elim, arith}
 use Rattle.std.specs.Prelude.{IsSomeAnd}
-use Rattle.std.proofs.lemmas.Bool.{cases_lt, cases_eq}
+use Rattle.std.proofs.lemmas.Bool.{cases_lt}
 use Rattle.std.specs.List.{All}
 use Rattle.yt_set.specs.declared.task.Task.{Task}
-use Rattle.yt_set.specs.Tasks.{IsTaskSet, FitsInterval, LacksRoom, LeavesRoom, floor_of, within, demand_bound, hyperperiod, load}
+use Rattle.yt_set.specs.Tasks.{IsTaskSet, FitsInterval, LacksRoom, LeavesRoom, floor_of, within, need_of, hyperperiod, load}
 use Rattle.yt_set.proofs.Lemmas.{all_more}
 use Rattle.yt_log.specs.declared.plan.PlanItem.{PlanItem}
-use Rattle.yt_log.specs.Tasks.{Has, task_of}
+use Rattle.yt_log.specs.Tasks.{Has}
 use Rattle.yt_log.specs.EdfDdm.{edf_ddm}
 use Rattle.yt_log.specs.Patterns.{MustMiss, pattern_plan, all_tasks, blocker}
 use Rattle.yt_log.specs.Laws.{RuleMisses, FitsIsExact}
 use Rattle.yt_log.proofs.Demands.{has_number}
-use Rattle.yt_log.proofs.Floors.{floor_at, floor_some, floor_none}
 use Rattle.yt_log.proofs.Overloads.{overloads}
 use Rattle.yt_log.proofs.Blockers.{blockers}
 use Rattle.yt_log.proofs.Exclusions.{rule_is_safe}
@@ -47,62 +46,44 @@ all_has : {X : Type 0} (P : X → Type 0) (xs : List X) → ((x : X) → Has xs 
 all_has P [] h = λ k d lt. absurd (omega arith)
 all_has P (x ∷ xs) h = all_more P x xs (h x (inl refl)) (all_has P xs (λ y is. h y (inr is)))
 
--- a span in which a task leaves no room
-record Fails (tasks : List Task) (task : Task) (span : ℕ) : Type 0 where
-  above : floor_at tasks task < span
-  over : span < task.cost + demand_bound tasks (span - 1)
+-- a task lacks room in a span, or it doesn't
+below_or : (o : Option ℕ) (span : ℕ) → IsSomeAnd o (λ floor. floor < span) ⊎ (IsSomeAnd o (λ floor. floor < span) → ⊥)
+below_or None span = inr (λ h. h)
+below_or (Some floor) span = ⊎_elim (λ (a : floor < span). inl a) (λ (a : span ≤ floor). inr (λ h. omega arith)) (cases_lt floor span)
 
-record Blocks (tasks : List Task) (task : Task) : Type 0 where
-  held : 0 < task.resource
-  span : ℕ
-  below : span < within task
-  fails : Fails tasks task span
-
-fails_or : (tasks : List Task) (task : Task) (span : ℕ) → Fails tasks task span ⊎ (Fails tasks task span → ⊥)
-fails_or tasks task span =
+lacks_or : (tasks : List Task) (task : Task) (span : ℕ) → LacksRoom tasks span task ⊎ (LacksRoom tasks span task → ⊥)
+lacks_or tasks task span =
     ⊎_elim
-    (λ (a : floor_at tasks task < span). ⊎_elim
-    (λ (b : span < task.cost + demand_bound tasks (span - 1)). inl (record { above = a; over = b }))
-    (λ (b : task.cost + demand_bound tasks (span - 1) ≤ span). inr (λ f. let o = f.over in omega arith))
-    (cases_lt span (task.cost + demand_bound tasks (span - 1))))
-    (λ (a : span ≤ floor_at tasks task). inr (λ f. let o = f.above in omega arith))
-    (cases_lt (floor_at tasks task) span)
+    (λ (a : IsSomeAnd (floor_of tasks task.resource) (λ floor. floor < span)). ⊎_elim
+    (λ (b : span < within task). ⊎_elim
+    (λ (c : span < need_of tasks task span). inl (a, b, c))
+    (λ (c : need_of tasks task span ≤ span). inr (λ l. let o = l.2 in omega arith))
+    (cases_lt span (need_of tasks task span)))
+    (λ (b : within task ≤ span). inr (λ l. let o = l.1 in omega arith))
+    (cases_lt span (within task)))
+    (λ (a : IsSomeAnd (floor_of tasks task.resource) (λ floor. floor < span) → ⊥). inr (λ l. a l.0))
+    (below_or (floor_of tasks task.resource) span)
+
+-- a task leaves no room in some span
+abbrev Blocks : List Task → Task → Type 0
+Blocks tasks task = (span : ℕ) × LacksRoom tasks span task
 
 blocks_or : (tasks : List Task) (task : Task) → Blocks tasks task ⊎ (Blocks tasks task → ⊥)
 blocks_or tasks task =
     ⊎_elim
-    (λ (a : 0 < task.resource). ⊎_elim
-    (λ (r : (k : ℕ) × (k < within task) × Fails tasks task k). inl (record { held = a; span = r.0; below = r.1; fails = r.2 }))
-    (λ (r : (k : ℕ) → k < within task → Fails tasks task k → ⊥). inr (λ b. r b.span b.below b.fails))
-    (search_below (Fails tasks task) (fails_or tasks task) (within task)))
-    (λ (a : task.resource ≤ 0). inr (λ b. let h = b.held in omega arith))
-    (cases_lt 0 task.resource)
+    (λ (r : (k : ℕ) × (k < within task) × LacksRoom tasks k task). inl (r.0, r.2))
+    (λ (r : (k : ℕ) → k < within task → LacksRoom tasks k task → ⊥). inr (λ b. r b.0 b.1.1 b.1))
+    (search_below (λ span. LacksRoom tasks span task) (lacks_or tasks task) (within task))
 
 -- a task that leaves no room, with its plan
 blocks_plan : (tasks : List Task) → IsTaskSet tasks → (task : Task) → Has tasks task → Blocks tasks task → (plan : List PlanItem) × (h : ℕ) × MustMiss tasks plan h
 blocks_plan tasks set task is b =
     let n = has_number tasks task is in
-    let P : Task → Type 0 = λ τ. (Has tasks τ) × Blocks tasks τ in
-    let c = subst P (sym n.3) (is, b) in
-    let τ = task_of tasks n.0 in
-    let k = c.1 in
-    (pattern_plan (blocker tasks n.0 k.span), k.span, blockers tasks set n.0 n.1 n.2 (floor_at tasks τ) k.span (floor_some tasks τ c.0 k.held) k.fails.above k.below k.fails.over)
+    (pattern_plan (blocker tasks n.0 b.0), b.0, blockers tasks set n.0 task n.1 b.0 b.1)
 
 -- where no task does so, each leaves room
 rooms_from : (tasks : List Task) → ((task : Task) → Has tasks task → Blocks tasks task → ⊥) → FitsInterval tasks
-rooms_from tasks none = all_has (LeavesRoom tasks) tasks (λ task is span lacks. blocked task is span lacks (floor_of tasks task.resource) refl lacks.0)
-  where
-    blocked : (task : Task) → Has tasks task → (span : ℕ) → LacksRoom tasks span task → (o : Option ℕ) → floor_of tasks task.resource ≡ o → IsSomeAnd o (λ n. n < span) → ⊥
-    blocked task is span lacks None at above = above
-    blocked task is span lacks (Some floor) at above =
-        let held : 0 < task.resource = ⊎_elim
-        (λ (z : task.resource ≡ 0). let e = floor_none tasks task.resource z in let both : None ≡ Some floor = sym e ∙ at in cc)
-        (λ (nz : task.resource ≡ 0 → ⊥). omega arith)
-        (cases_eq task.resource 0) in
-        let e : Some (floor_at tasks task) ≡ Some floor = sym (floor_some tasks task is held) ∙ at in
-        let same : floor_at tasks task ≡ floor = cc in
-        let more : floor < span = above in
-        none task is (record { held = held; span = span; below = lacks.1; fails = record { above = omega arith; over = lacks.2 } })
+rooms_from tasks none = all_has (LeavesRoom tasks) tasks (λ task is span lacks. none task is (span, lacks))
 
 pub rule_misses : RuleMisses
 rule_misses tasks plan h must log long rule =

@@ -8,7 +8,7 @@ use Rattle.yt_log.specs.declared.plan.PlanItem.{PlanItem}
 use Rattle.yt_log.specs.Tasks.{Has}
 use Rattle.yt_log.specs.Ticks.{Ticks, tick}
 use Rattle.yt_log.specs.EdfDdm.{rank, waits, sooner, least, job_of, choice, IsEdfDdm}
-use Rattle.yt_log.specs.Laws.{GrowsOnline}
+use Rattle.yt_log.specs.Laws.{RuleIsOnline}
 use Rattle.yt_log.proofs.Appends.{legal_push}
 use Rattle.yt_log.proofs.Choices.{waits_true}
 use Rattle.yt_log.proofs.Made.{Agree, choice_same}
@@ -56,8 +56,8 @@ tick_grows tasks plan log rule t h =
     subst P e (tick_last log last ∙ sym (choice_same tasks plan more log n (agree n (omega arith)))))
     (cases_lt t n)
 
-pub grows_online : GrowsOnline
-grows_online = record {
+pub rule_is_online : RuleIsOnline
+rule_is_online = record {
   item = legal_push;
   plan = λ tasks plan more log later rule t h. rule t h ∙ sym (choice_more tasks plan more log t (λ i is. let l = later i is in omega arith));
   tick = tick_grows;

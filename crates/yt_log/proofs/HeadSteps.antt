@@ -1,6 +1,7 @@
 -- How the heads of the tasks go on from tick to tick.
-use Rattle.std.proofs.Common.{◌≡◌, ℕ, suc, ◌+◌, ◌-◌, ◌<◌, ◌≤◌, cond, eqb, List, length, slice_get, min, Option, Some, None, sym, ap, ap₂, subst, ◌∙◌, ⊎_elim, arith, eq-eqb, ne_eqb}
+use Rattle.std.proofs.Common.{◌≡◌, ℕ, suc, ◌+◌, ◌<◌, ◌≤◌, cond, eqb, List, length, min, Option, Some, None, sym, ap, ap₂, subst, ◌∙◌, ⊎_elim, arith, eq-eqb, ne_eqb}
 use Rattle.std.proofs.lemmas.Bool.{cases_lt, cases_eq, cond-true, cond-false}
+use Rattle.yt_list.specs.Numbered.{numbered}
 use Rattle.yt_set.specs.declared.task.Task.{Task}
 use Rattle.yt_set.specs.Tasks.{floor_of}
 use Rattle.yt_log.specs.declared.job.Job.{Job}
@@ -12,7 +13,8 @@ use Rattle.yt_log.specs.EdfDdm.{lowered, current_deadline}
 use Rattle.yt_log.specs.Inside.Heads.{item_at, item_of, TellsItem, IsHead, ran, Starts}
 use Rattle.yt_log.proofs.Ticks.{done-zero, done_yes, done_no, done_grows, first-suc_zero, first-suc}
 use Rattle.yt_log.proofs.Choices.{current_fresh, current_begun}
-use Rattle.yt_log.proofs.Places.{one_place, task_read}
+use Rattle.yt_log.proofs.Demands.{task_read}
+use Rattle.yt_log.proofs.Places.{one_place}
 
 -- a tick that goes elsewhere leaves an item's deadline
 current_stays : (tasks : List Task) (log : Ticks) (t : ℕ) (item : PlanItem) → (tick log t ≡ Some item.job → ⊥) → current_deadline tasks log (suc t) item ≡ current_deadline tasks log t item
@@ -144,5 +146,5 @@ unfolding lowered
 lowered-none deadline first floor e = ap (lowered deadline first) e
 
 -- the floor that a set has for an item's task
-pub floor_read : (tasks : List Task) (item : PlanItem) (task : Task) (floor : Option ℕ) → 1 ≤ item.job.task → slice_get tasks (item.job.task - 1) ≡ Some task → floor ≡ floor_of tasks task.resource → floor_of tasks (its_task tasks item).resource ≡ floor
-floor_read tasks item task floor from at is = ap (λ (τ : Task). floor_of tasks τ.resource) (task_read tasks item.job.task task from at) ∙ sym is
+pub floor_read : (tasks : List Task) (item : PlanItem) (task : Task) (floor : Option ℕ) → numbered tasks item.job.task ≡ Some task → floor ≡ floor_of tasks task.resource → floor_of tasks (its_task tasks item).resource ≡ floor
+floor_read tasks item task floor at is = ap (λ (τ : Task). floor_of tasks τ.resource) (task_read tasks item.job.task task at) ∙ sym is

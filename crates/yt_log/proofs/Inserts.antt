@@ -1,11 +1,12 @@
 -- Jobs put into a legal plan, each in front of the later ones of its task.
-use Rattle.std.proofs.Common.{◌≡◌, ℕ, ◌+◌, ◌<◌, ◌≤◌, ◌⊎◌, true, false, ◌&&◌, cond, eqb, ltb, List, [], ◌∷◌, refl, sym, ap, subst, inl, inr, ⊎_elim, arith, eqb-true, eq-eqb, ne_eqb, ltb-true, lt-ltb}
-use Rattle.std.proofs.lemmas.Bool.{cases_Bool, cases_lt, cases_eq, and_parts, or_cases, or_left, cond-true, cond-false, both_ways}
+use Rattle.std.proofs.Common.{◌≡◌, ℕ, ◌+◌, ◌≤◌, ◌⊎◌, true, false, cond, eqb, List, [], ◌∷◌, refl, sym, ap, subst, inl, inr, ⊎_elim, arith, eq-eqb, ne_eqb}
+use Rattle.std.proofs.lemmas.Bool.{cases_Bool, cases_eq, cond-true, cond-false}
 use Rattle.yt_set.specs.declared.task.Task.{Task}
 use Rattle.yt_log.specs.declared.plan.PlanItem.{PlanItem}
 use Rattle.yt_log.specs.Tasks.{Has, task_of}
 use Rattle.yt_log.specs.Plan.{its_task, jobs_of, IsLegalAfter}
 use Rattle.yt_order.specs.Sorting.{insert_by}
+use Rattle.yt_order.proofs.Lemmas.{first_no_greater, first_no_less, insert_behind, insert_in_front}
 use Rattle.yt_log.specs.Patterns.{item_before}
 use Rattle.yt_log.proofs.Plans.{IsGood, jobs_of-cons}
 use Rattle.yt_log.proofs.Appends.{jobs_none}
@@ -93,28 +94,6 @@ legal_wider off off' tasks x b b' (z ∷ zs) has counts late apart legal = (
       legal.1,
 )
 
-before_true : (y x : PlanItem) → item_before y x ≡ true → y.arrival ≤ x.arrival
-before_true y x h =
-    ⊎_elim
-    (λ (l : ltb y.arrival x.arrival ≡ true). let a = ltb-true y.arrival x.arrival l in omega arith)
-    (λ (r : (eqb y.arrival x.arrival && ltb y.job.task x.job.task) ≡ true).
-    let q = eqb-true y.arrival x.arrival (and_parts (eqb y.arrival x.arrival) (ltb y.job.task x.job.task) r).0 in omega arith)
-    (or_cases (ltb y.arrival x.arrival) (eqb y.arrival x.arrival && ltb y.job.task x.job.task) h)
-
-before_false : (y x : PlanItem) → item_before y x ≡ false → x.arrival ≤ y.arrival
-before_false y x h =
-    ⊎_elim
-    (λ (l : y.arrival < x.arrival).
-    absurd (both_ways (item_before y x) h (or_left (ltb y.arrival x.arrival) (eqb y.arrival x.arrival && ltb y.job.task x.job.task) (lt-ltb y.arrival x.arrival l))))
-    (λ (l : x.arrival ≤ y.arrival). l)
-    (cases_lt y.arrival x.arrival)
-
-pub insert_yes : (x y : PlanItem) (ys : List PlanItem) → item_before y x ≡ true → insert_by item_before x (y ∷ ys) ≡ y ∷ insert_by item_before x ys
-insert_yes x y ys h = cond-true (item_before y x) (y ∷ insert_by item_before x ys) (x ∷ y ∷ ys) h
-
-pub insert_no : (x y : PlanItem) (ys : List PlanItem) → item_before y x ≡ false → insert_by item_before x (y ∷ ys) ≡ x ∷ y ∷ ys
-insert_no x y ys h = cond-false (item_before y x) (y ∷ insert_by item_before x ys) (x ∷ y ∷ ys) h
-
 module _ (off off' : ℕ → ℕ) (tasks : List Task) (x : PlanItem) (good : IsGood tasks x) (period : 1 ≤ (its_task tasks x).period)
     (less : off x.job.task ≡ 1 + off' x.job.task) (others : (m : ℕ) → (m ≡ x.job.task → ⊥) → off' m ≡ off m) (number : x.job.number ≡ 1 + off' x.job.task) where
   -- what an item put in knows of those before it
@@ -153,7 +132,7 @@ module _ (off off' : ℕ → ℕ) (tasks : List Task) (x : PlanItem) (good : IsG
       let P : List PlanItem → Type 0 = λ zs. IsLegalFrom off' tasks before zs in
       ⊎_elim
       (λ (h : item_before y x ≡ true).
-      let early = before_true y x h in
+      let early : y.arrival ≤ x.arrival = first_no_greater (λ (i : PlanItem). i.arrival) (λ (i : PlanItem). i.job.task) y x h in
       let ne : y.job.task ≡ x.job.task → ⊥ = λ e.
       let a = apart y (inl refl) e in
       let q : (its_task tasks y).period ≡ (its_task tasks x).period = ap (λ (m : ℕ). (task_of tasks m).period) e in
@@ -173,10 +152,10 @@ module _ (off off' : ℕ → ℕ) (tasks : List Task) (x : PlanItem) (good : IsG
         order = legal.0.order;
         apart = legal.0.apart;
       } in
-      subst P (sym (insert_yes x y ys h)) (first, insert_at (y ∷ before) ys place (λ z is. apart z (inr is)) legal.1))
+      subst P (sym (insert_behind item_before x y ys h)) (first, insert_at (y ∷ before) ys place (λ z is. apart z (inr is)) legal.1))
       (λ (h : item_before y x ≡ false).
-      let late = before_false y x h in
-      subst P (sym (insert_no x y ys h)) (
+      let late : x.arrival ≤ y.arrival = first_no_less (λ (i : PlanItem). i.arrival) (λ (i : PlanItem). i.job.task) y x h in
+      subst P (sym (insert_in_front item_before x y ys h)) (
         next before p,
         legal_wider off off' tasks x before (x ∷ before) (y ∷ ys) (λ e is. is) (counts before)
             (λ z is. ⊎_elim

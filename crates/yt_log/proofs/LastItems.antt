@@ -1,17 +1,17 @@
 -- The last job of each task, as items come.
-use Rattle.std.proofs.Common.{◌≡◌, ◌≢◌, ℕ, zero, suc, ◌+◌, ◌-◌, ◌<◌, ◌≤◌, cond, eqb, List, [], ◌∷◌, length, get_or, set, Some, refl, sym, ap, ap₂, subst, ◌∙◌, ⊎_elim, inl, inr, arith, eq-eqb, ne_eqb, slice_get}
+use Rattle.std.proofs.Common.{◌≡◌, ◌≢◌, ℕ, ◌+◌, ◌-◌, ◌<◌, ◌≤◌, cond, eqb, List, [], ◌∷◌, length, get_or, set, Some, refl, sym, ap, ap₂, subst, ◌∙◌, ⊎_elim, inl, inr, arith, eq-eqb, ne_eqb, slice_get}
 use Rattle.std.proofs.lemmas.Bool.{cases_eq, cond-true, cond-false}
 use Rattle.std.proofs.lemmas.List.{get_or-set_same, get_or-set_other, length-set}
-use Rattle.std.proofs.lemmas.Option.{slice_get_within, slice_get-get_or, get_or_from_slice_get}
-use Rattle.yt_set.specs.declared.task.Task.{Task}
+use Rattle.std.proofs.lemmas.Option.{same_Some, slice_get_within, slice_get-get_or, get_or_from_slice_get}
+use Rattle.yt_list.proofs.Lemmas.{numbered_place}
+use Rattle.yt_list.specs.Numbered.{numbered}
 use Rattle.yt_log.specs.declared.plan.PlanItem.{PlanItem}
 use Rattle.yt_log.specs.declared.last_jobs.LastJob.{LastJob}
-use Rattle.yt_log.specs.Tasks.{Has, no_task, task_of}
+use Rattle.yt_log.specs.Tasks.{Has}
 use Rattle.yt_log.specs.Plan.{jobs_of}
 use Rattle.yt_log.specs.LastJobs.{last_of, last_job}
 use Rattle.yt_log.specs.Inside.LastJobs.{AreLast}
 use Rattle.yt_log.proofs.Plans.{jobs_of-cons}
-use Rattle.yt_log.proofs.Demands.{task_of-suc}
 
 abbrev pub none : LastJob
 none = record { number = 0; arrival = 0 }
@@ -46,17 +46,18 @@ jobs_of-other task x before ne =
     omega arith
 
 pub none_last : (jobs : List LastJob) → ((k : ℕ) → k < 64 → slice_get jobs k ≡ Some none) → AreLast jobs []
-none_last jobs h = λ task a b. h (task - 1) (omega arith) ∙ ap (λ (j : LastJob). Some j) (sym (last_none task))
+none_last jobs h = λ task a b. numbered_place jobs task a ∙ h (task - 1) (omega arith) ∙ ap (λ (j : LastJob). Some j) (sym (last_none task))
 
 -- the jobs with an item's, where it has the next number
 pub see_last : (jobs : List LastJob) (before : List PlanItem) (x : PlanItem) → 1 ≤ x.job.task → x.job.task ≤ 64 → x.job.number ≡ jobs_of x.job.task before + 1 →
     AreLast jobs before → AreLast (set jobs (x.job.task - 1) (seen x)) (x ∷ before)
 see_last jobs before x low high number are = λ task a b.
     let place = x.job.task - 1 in
-    let long : task - 1 < length jobs = slice_get_within jobs (task - 1) _ (are task a b) in
+    let was : slice_get jobs (task - 1) ≡ Some (last_job task before) = sym (numbered_place jobs task a) ∙ are task a b in
+    let long : task - 1 < length jobs = slice_get_within jobs (task - 1) _ was in
     let same_long : length (set jobs place (seen x)) ≡ length jobs = length-set jobs place (seen x) in
     let read : slice_get (set jobs place (seen x)) (task - 1) ≡ Some (get_or (set jobs place (seen x)) (task - 1) none) = slice_get-get_or _ (task - 1) none (omega arith) in
-    read ∙ ap (λ (j : LastJob). Some j) (⊎_elim
+    numbered_place _ task a ∙ read ∙ ap (λ (j : LastJob). Some j) (⊎_elim
     (λ (e : x.job.task ≡ task).
     let P : ℕ → Type 0 = λ n. get_or (set jobs place (seen x)) (n - 1) none ≡ last_job n (x ∷ before) in
     let made : ℕ → ℕ → LastJob = λ n t. record { number = n; arrival = t } in
@@ -65,16 +66,13 @@ see_last jobs before x low high number are = λ task a b.
     (λ (ne : x.job.task ≢ task).
     let made : ℕ → ℕ → LastJob = λ n t. record { number = n; arrival = t } in
     get_or-set_other jobs place (task - 1) (seen x) none (λ e. ne (omega arith)) ∙
-    get_or_from_slice_get jobs (task - 1) _ none (are task a b) ∙
+    get_or_from_slice_get jobs (task - 1) _ none was ∙
     ap₂ made (sym (jobs_of-other task x before ne)) (sym (last_of-other task x before ne)))
     (cases_eq x.job.task task))
 
--- the task of a number, as a set gives it
-pub task_at : (tasks : List Task) (n : ℕ) (task : Task) → 1 ≤ n → slice_get tasks (n - 1) ≡ Some task → task ≡ task_of tasks n
-task_at tasks zero task a at = absurd (omega arith)
-task_at tasks (suc n) task a at =
-    let here : suc n - 1 ≡ n = omega arith in
-    sym (task_of-suc tasks n ∙ get_or_from_slice_get tasks n task no_task (ap (slice_get tasks) (sym here) ∙ at))
+-- what is kept for a task is its last job
+pub last_at : (jobs : List LastJob) (before : List PlanItem) (task : ℕ) (last : LastJob) → 1 ≤ task → task ≤ 64 → AreLast jobs before → numbered jobs task ≡ Some last → last ≡ last_job task before
+last_at jobs before task last low few are got = same_Some last (last_job task before) (sym got ∙ are task low few)
 
 -- the last of a task is one of its items
 pub last_item : (task : ℕ) (before : List PlanItem) → 1 ≤ jobs_of task before → (e : PlanItem) × (Has before e) × (e.job.task ≡ task) × (e.arrival ≡ last_of task before)

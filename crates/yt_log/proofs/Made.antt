@@ -83,7 +83,8 @@ pub rule_makes_logs : RuleMakesLogs
 rule_makes_logs tasks plan n =
     record { long = made_long tasks plan n; rule = λ t h. made_rule tasks plan n t (let l = made_long tasks plan n in omega arith) }
 
-same_so_far : (tasks : List Task) (plan : List PlanItem) (a b : Ticks) → IsEdfDdm tasks plan a → IsEdfDdm tasks plan b → (n : ℕ) → n ≤ length a → n ≤ length b → Agree a b n
+-- two logs of the rule have the same ticks for as long as both go
+pub same_so_far : (tasks : List Task) (plan : List PlanItem) (a b : Ticks) → IsEdfDdm tasks plan a → IsEdfDdm tasks plan b → (n : ℕ) → n ≤ length a → n ≤ length b → Agree a b n
 same_so_far tasks plan a b ra rb zero x y u h = absurd (omega arith)
 same_so_far tasks plan a b ra rb (suc n) x y u h =
     let before = same_so_far tasks plan a b ra rb n (omega arith) (omega arith) in

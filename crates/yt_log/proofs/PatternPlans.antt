@@ -7,12 +7,13 @@ use Rattle.yt_log.specs.Tasks.{Has, task_of, no_task}
 use Rattle.yt_log.specs.Plan.{its_task, jobs_of, IsLegal}
 use Rattle.yt_order.specs.Sorting.{insert_by, sort_by}
 use Rattle.yt_log.specs.Patterns.{Arrivals, jobs_arriving, all_arriving, item_before, pattern_plan, arrivals_from}
+use Rattle.yt_order.proofs.Lemmas.{insert_behind, insert_in_front}
 use Rattle.yt_log.proofs.Forms.{IsUsable, AreUsable}
 use Rattle.yt_log.proofs.Plans.{IsGood, jobs_of-cons}
 use Rattle.yt_log.proofs.Appends.{has_push, jobs_push_same, jobs_push_other, jobs_none}
 use Rattle.yt_log.proofs.Demands.{has_task, task_of-suc}
 use Rattle.yt_log.proofs.Members.{has_append, has_insert, has_sorted}
-use Rattle.yt_log.proofs.Inserts.{IsLegalFrom, legal_whole, legal_same, legal_insert, insert_yes, insert_no}
+use Rattle.yt_log.proofs.Inserts.{IsLegalFrom, legal_whole, legal_same, legal_insert}
 
 -- items put in, the last one first
 abbrev insert_all : List PlanItem → List PlanItem → List PlanItem
@@ -33,14 +34,14 @@ jobs_of-insert m x [] = refl
 jobs_of-insert m x (y ∷ ys) =
     ⊎_elim
     (λ (b : item_before y x ≡ true).
-    let e = ap (jobs_of m) (insert_yes x y ys b) in
+    let e = ap (jobs_of m) (insert_behind item_before x y ys b) in
     let r = jobs_of-insert m x ys in
     let p = jobs_of-cons m y (insert_by item_before x ys) in
     let q = jobs_of-cons m y ys in
     let s = jobs_of-cons m x ys in
     let t = jobs_of-cons m x (y ∷ ys) in
     omega arith)
-    (λ (b : item_before y x ≡ false). ap (jobs_of m) (insert_no x y ys b))
+    (λ (b : item_before y x ≡ false). ap (jobs_of m) (insert_in_front item_before x y ys b))
     (cases_Bool (item_before y x))
 
 jobs_of-sort : (m : ℕ) (xs : List PlanItem) → jobs_of m (sort_by item_before xs) ≡ jobs_of m xs

@@ -1,24 +1,17 @@
 -- The items at the places of a plan.
-use Rattle.std.proofs.Common.{◌≡◌, ℕ, zero, suc, ◌+◌, ◌-◌, ◌<◌, ◌≤◌, List, [], ◌∷◌, length, slice_get, Some, refl, sym, ap, ◌∙◌, inl, inr, ⊎_elim, arith}
+use Rattle.std.proofs.Common.{◌≡◌, ℕ, zero, suc, ◌+◌, ◌<◌, ◌≤◌, List, [], ◌∷◌, length, Some, refl, sym, ap, ◌∙◌, inl, inr, ⊎_elim, arith}
 use Rattle.std.proofs.lemmas.Bool.{cases_order}
-use Rattle.std.proofs.lemmas.Option.{get_or_from_slice_get}
+use Rattle.yt_list.specs.Numbered.{numbered}
 use Rattle.yt_set.specs.declared.task.Task.{Task}
 use Rattle.yt_set.specs.Tasks.{IsTaskSet, within}
 use Rattle.yt_log.specs.declared.job.Job.{Job}
 use Rattle.yt_log.specs.declared.plan.PlanItem.{PlanItem}
-use Rattle.yt_log.specs.Tasks.{Has, no_task, task_of}
+use Rattle.yt_log.specs.Tasks.{Has, task_of}
 use Rattle.yt_log.specs.Plan.{its_task, deadline_of, IsLegalAfter, IsLegal}
 use Rattle.yt_log.specs.Inside.Heads.{item_at}
 use Rattle.yt_log.proofs.Forms.{usable}
-use Rattle.yt_log.proofs.Demands.{deadline_is, has_item, task_of-suc}
+use Rattle.yt_log.proofs.Demands.{deadline_is, has_item, task_read}
 use Rattle.yt_log.proofs.Plans.{AreCounted, counted_more, numbered_after, apart_after}
-
--- the task that a set has at a number
-pub task_read : (tasks : List Task) (n : ℕ) (task : Task) → 1 ≤ n → slice_get tasks (n - 1) ≡ Some task → task_of tasks n ≡ task
-task_read tasks zero task from at = absurd (omega arith)
-task_read tasks (suc n) task from at =
-    let here : slice_get tasks n ≡ Some task = ap (λ (k : ℕ). slice_get tasks k) (omega arith) ∙ at in
-    task_of-suc tasks n ∙ get_or_from_slice_get tasks n task no_task here
 
 pub has_place : (plan : List PlanItem) (k : ℕ) → k < length plan → Has plan (item_at plan k)
 unfolding item_at
@@ -95,5 +88,5 @@ one_place tasks plan legal k m hk hm e =
     (cases_order k m)
 
 -- the deadline, from the task that a set has at a number
-pub deadline_read : (tasks : List Task) (item : PlanItem) (task : Task) → 1 ≤ item.job.task → slice_get tasks (item.job.task - 1) ≡ Some task → deadline_of tasks item ≡ item.arrival + within task
-deadline_read tasks item task from at = deadline_is tasks item ∙ ap (λ (τ : Task). item.arrival + within τ) (task_read tasks item.job.task task from at)
+pub deadline_read : (tasks : List Task) (item : PlanItem) (task : Task) → numbered tasks item.job.task ≡ Some task → deadline_of tasks item ≡ item.arrival + within task
+deadline_read tasks item task at = deadline_is tasks item ∙ ap (λ (τ : Task). item.arrival + within τ) (task_read tasks item.job.task task at)

@@ -1,10 +1,10 @@
 -- Judging a plan item by item.
-use Rattle.std.proofs.Common.{◌≡◌, ℕ, zero, suc, ◌+◌, ◌-◌, ◌<◌, ◌≤◌, ◌⊎◌, Bool, true, false, ◌&&◌, ◌||◌, eqb, leb, List, [], ◌∷◌, length, slice_get, get_or, take, drop, reverse, Some, refl, sym, ap, ap₂, subst, ◌∙◌, ⊎_elim, inl, inr, arith, eq-eqb, eqb-true}
+use Rattle.std.proofs.Common.{◌≡◌, ℕ, zero, suc, ◌+◌, ◌-◌, ◌<◌, ◌≤◌, ◌⊎◌, Bool, true, false, ◌&&◌, ◌||◌, eqb, leb, List, [], ◌∷◌, length, get_or, take, drop, reverse, Some, refl, sym, ap, ap₂, subst, ◌∙◌, ⊎_elim, inl, inr, arith, eq-eqb, eqb-true}
 use Rattle.std.proofs.lemmas.Bool.{and_parts, and_from, or_left, or_right, leb-true, le-leb}
-use Rattle.std.proofs.lemmas.Option.{get_or_from_slice_get}
 use Rattle.std.proofs.lemmas.List.{take_more, drop_more, reverse-append}
 use Rattle.std.proofs.lemmas.List.Elements.{All-nil, All-cons, All-head, All-tail}
 use Rattle.std.specs.List.{All}
+use Rattle.yt_list.specs.Numbered.{numbered}
 use Rattle.yt_set.specs.declared.task.Task.{Task}
 use Rattle.yt_log.specs.declared.plan.PlanItem.{PlanItem}
 use Rattle.yt_log.specs.declared.last_jobs.LastJob.{LastJob}
@@ -12,7 +12,9 @@ use Rattle.yt_log.specs.Tasks.{Has}
 use Rattle.yt_log.specs.Plan.{its_task, jobs_of, IsNext, IsLegalAfter, IsLegalPlan, ArriveFrom}
 use Rattle.yt_log.specs.LastJobs.{last_of, last_job}
 use Rattle.yt_log.specs.Inside.LastJobs.{AreLast, may_follow, may_come}
-use Rattle.yt_log.proofs.LastItems.{task_at, last_item, IsNewest, newest_more, counted_item}
+use Rattle.yt_log.proofs.LastItems.{last_at}
+use Rattle.yt_log.proofs.Demands.{task_read}
+use Rattle.yt_log.proofs.LastItems.{last_item, IsNewest, newest_more, counted_item}
 
 or_true : (x y : Bool) → (x || y) ≡ true → (x ≡ true) ⊎ (y ≡ true)
 or_true true y e = inl refl
@@ -144,10 +146,10 @@ judged_all tasks plan before j = j.from (tt, All-nil (λ (i : PlanItem). i.arriv
 
 -- the tests of an item's task give what may come
 pub comes_by_tests : (tasks : List Task) (before : List PlanItem) (x : PlanItem) (its : Task) (jobs : List LastJob) (last : LastJob) (b : Bool) → 1 ≤ x.job.task → x.job.task ≤ length tasks → x.job.task ≤ 64 →
-    slice_get tasks (x.job.task - 1) ≡ Some its → AreLast jobs before → slice_get jobs (x.job.task - 1) ≡ Some last → b ≡ may_follow its last x → b ≡ may_come tasks before x
+    numbered tasks x.job.task ≡ Some its → AreLast jobs before → numbered jobs x.job.task ≡ Some last → b ≡ may_follow its last x → b ≡ may_come tasks before x
 comes_by_tests tasks before x its jobs last b low high few at are got is =
-    let task = task_at tasks x.job.task its low at in
-    let same : last ≡ last_job x.job.task before = sym (get_or_from_slice_get jobs (x.job.task - 1) last last got) ∙ get_or_from_slice_get jobs (x.job.task - 1) (last_job x.job.task before) last (are x.job.task low few) in
+    let task = sym (task_read tasks x.job.task its at) in
+    let same : last ≡ last_job x.job.task before = last_at jobs before x.job.task last low few are got in
     is ∙
     ap₂ (λ (t : Task) (l : LastJob). may_follow t l x) task same ∙
     sym (ap₂ (λ (p q : Bool). p && (q && may_follow (its_task tasks x) (last_job x.job.task before) x)) (le-leb 1 x.job.task low) (le-leb x.job.task (length tasks) high))

@@ -1,10 +1,10 @@
 -- Plans as their texts are read.
-use Rattle.std.proofs.Common.{◌≡◌, ℕ, ◌+◌, ◌-◌, ◌<◌, ◌≤◌, ◌^◌, min, Bool, true, false, ◌&&◌, ◌||◌, not, cond, eqb, leb, ltb, List, [], ◌∷◌, ◌++◌, length, reverse, slice_get, Some, None, IfSome, Option, Err, refl, sym, ap, ap₂, subst, ◌∙◌, ⊎_elim, arith, append_assoc}
+use Rattle.std.proofs.Common.{◌≡◌, ℕ, ◌+◌, ◌-◌, ◌<◌, ◌≤◌, ◌^◌, min, Bool, true, false, ◌&&◌, ◌||◌, not, cond, eqb, leb, ltb, List, [], ◌∷◌, ◌++◌, length, reverse, Some, None, IfSome, Option, Err, refl, sym, ap, ap₂, subst, ◌∙◌, ⊎_elim, arith, append_assoc}
 use Rattle.std.proofs.lemmas.Bool.{cases_Bool, cases_lt, cond-true, cond-false, and_from, and_parts, and_right, or_left, or_right, not_from_false, not_from_true, le-leb, leb-true, lt-leb, lt-ltb, eq-eqb}
-use Rattle.std.proofs.lemmas.Option.{get_or_from_slice_get}
 use Rattle.std.proofs.lemmas.List.{reverse-append, append-nil, length-reverse}
 use Rattle.std.proofs.lemmas.List.Elements.{All-nil, All-cons, All-append}
 use Rattle.std.specs.List.{position_from}
+use Rattle.yt_list.specs.Numbered.{numbered}
 use Rattle.yt_set.specs.declared.task.Task.{Task}
 use Rattle.yt_set.specs.Tasks.{IsTask, IsTaskSet}
 use Rattle.yt_log.specs.declared.plan.PlanItem.{PlanItem}
@@ -24,17 +24,13 @@ use Rattle.yt_log.proofs.Forms.{has_all}
 use Rattle.yt_log.proofs.Demands.{has_task}
 use Rattle.yt_log.proofs.Plans.{jobs_of-cons}
 use Rattle.yt_log.proofs.Appends.{rev_onto, has_rev_onto, legal_more}
-use Rattle.yt_log.proofs.LastItems.{task_at, last_item, IsNewest, newest_more, last_of-none}
+use Rattle.yt_log.proofs.Demands.{task_read}
+use Rattle.yt_log.proofs.LastItems.{last_at, last_item, IsNewest, newest_more, last_of-none}
 use Rattle.yt_log.proofs.PlanJudging.{next_item}
 
 -- a task of a set is in range
 pub task_in_range : (tasks : List Task) (n : ℕ) → IsTaskSet tasks → 1 ≤ n → n ≤ length tasks → IsTask (task_of tasks n)
 task_in_range tasks n set low high = has_all IsTask tasks set.1 (task_of tasks n) (has_task tasks n low high)
-
--- the i-th of the last jobs is that of its task
-pub last_at : (jobs : List LastJob) (before : List PlanItem) (task : ℕ) (last : LastJob) → 1 ≤ task → task ≤ 64 → AreLast jobs before → slice_get jobs (task - 1) ≡ Some last → last ≡ last_job task before
-last_at jobs before task last low few are got =
-    sym (get_or_from_slice_get jobs (task - 1) last last got) ∙ get_or_from_slice_get jobs (task - 1) (last_job task before) last (are task low few)
 
 -- there are no more jobs of a task than items
 pub jobs_few : (task : ℕ) (xs : List PlanItem) → jobs_of task xs ≤ length xs
@@ -213,7 +209,7 @@ come_few tasks before x set may =
 
 -- the last job of a task of the set
 pub item_last : (tasks : List Task) (plan : List PlanItem) (jobs : List LastJob) (task : ℕ) (last : LastJob) → IsTaskSet tasks → 1 ≤ task → task ≤ length tasks → AreLast jobs (reverse plan) →
-    slice_get jobs (task - 1) ≡ Some last → last ≡ last_job task (reverse plan)
+    numbered jobs task ≡ Some last → last ≡ last_job task (reverse plan)
 item_last tasks plan jobs task last set low high are got =
     let few : length tasks ≤ 64 = set.0 in
     last_at jobs (reverse plan) task last low (omega (arith, few, high)) are got
@@ -232,29 +228,29 @@ judged_as set plan fields texts task arrival cost range low high is first last n
 
 -- the tests of a task's next job judge it
 pub item_answer : (read now : PlanSoFar) (lasts : List LastJob) (its : Task) (last : LastJob) (task latest jobs arrival cost : ℕ) (o : Option ItemFault) → read ≡ now →
-    IsTaskSet read.set.tasks → 1 ≤ task → task ≤ length now.set.tasks → slice_get read.set.tasks (task - 1) ≡ Some its → AreLast lasts (reverse read.plan) → slice_get lasts (task - 1) ≡ Some last →
+    IsTaskSet read.set.tasks → 1 ≤ task → task ≤ length now.set.tasks → numbered read.set.tasks task ≡ Some its → AreLast lasts (reverse read.plan) → numbered lasts task ≡ Some last →
     latest ≡ last_arrival read.plan → jobs ≡ length read.plan → o ≡ item_fault its last latest jobs arrival cost →
     judged_item now.set.tasks now.plan task arrival cost ≡ unless o (now.plan ++ record { job = record { task = task; number = last.number + 1 }; arrival = arrival; cost = cost } ∷ [])
 item_answer read now lasts its last task latest jobs arrival cost o same set low high at are got latest_is jobs_is o_is =
     let x : PlanItem = record { job = record { task = task; number = last.number + 1 }; arrival = arrival; cost = cost } in
     let here = subst (λ (r : PlanSoFar). task ≤ length r.set.tasks) (sym same) high in
     subst (λ (r : PlanSoFar). judged_item r.set.tasks r.plan task arrival cost ≡ unless o (r.plan ++ x ∷ [])) same
-    (judged_by read.set.tasks read.plan its last task latest jobs arrival cost o (task_at read.set.tasks task its low at) (item_last read.set.tasks read.plan lasts task last set low here are got) latest_is jobs_is o_is)
+    (judged_by read.set.tasks read.plan its last task latest jobs arrival cost o (sym (task_read read.set.tasks task its at)) (item_last read.set.tasks read.plan lasts task last set low here are got) latest_is jobs_is o_is)
 
 -- without a fault it may come
 pub item_may : (read now : PlanSoFar) (lasts : List LastJob) (its : Task) (last : LastJob) (task latest jobs arrival cost : ℕ) → read ≡ now →
-    IsTaskSet read.set.tasks → 1 ≤ task → task ≤ length now.set.tasks → slice_get read.set.tasks (task - 1) ≡ Some its → AreLast lasts (reverse read.plan) → slice_get lasts (task - 1) ≡ Some last →
+    IsTaskSet read.set.tasks → 1 ≤ task → task ≤ length now.set.tasks → numbered read.set.tasks task ≡ Some its → AreLast lasts (reverse read.plan) → numbered lasts task ≡ Some last →
     1 ≤ its.period → IsFine its last latest jobs arrival cost →
     may_come now.set.tasks (reverse now.plan) (record { job = record { task = task; number = last.number + 1 }; arrival = arrival; cost = cost }) ≡ true
 item_may read now lasts its last task latest jobs arrival cost same set low high at are got some fine =
     let x : PlanItem = record { job = record { task = task; number = last.number + 1 }; arrival = arrival; cost = cost } in
     let here = subst (λ (r : PlanSoFar). task ≤ length r.set.tasks) (sym same) high in
     subst (λ (r : PlanSoFar). may_come r.set.tasks (reverse r.plan) x ≡ true) same
-    (fine_comes read.set.tasks (reverse read.plan) its last task latest jobs arrival cost low here some (task_at read.set.tasks task its low at) (item_last read.set.tasks read.plan lasts task last set low here are got) fine)
+    (fine_comes read.set.tasks (reverse read.plan) its last task latest jobs arrival cost low here some (sym (task_read read.set.tasks task its at)) (item_last read.set.tasks read.plan lasts task last set low here are got) fine)
 
 -- a last job is in bounds: it arrived in time, and there are no more jobs of a task than items
 pub last_bounds : (read now : PlanSoFar) (lasts : List LastJob) (last : LastJob) (task : ℕ) → read ≡ now →
-    IsTaskSet read.set.tasks → IsLegalPlan read.set.tasks read.plan → 1 ≤ task → task ≤ length now.set.tasks → AreLast lasts (reverse read.plan) → slice_get lasts (task - 1) ≡ Some last →
+    IsTaskSet read.set.tasks → IsLegalPlan read.set.tasks read.plan → 1 ≤ task → task ≤ length now.set.tasks → AreLast lasts (reverse read.plan) → numbered lasts task ≡ Some last →
     (last.arrival ≤ 8000000) × (last.number ≤ length read.plan)
 last_bounds read now lasts last task same set legal low high are got =
     let here = subst (λ (r : PlanSoFar). task ≤ length r.set.tasks) (sym same) high in

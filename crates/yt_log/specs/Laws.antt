@@ -1,10 +1,11 @@
 -- What is proved of every task set, plan and log. The rule is earliest deadline first with dynamic deadline modification (`IsEdfDdm`).
-use Rattle.std.specs.Prelude.{◌≡◌, ◌⊎◌, ℕ, ◌+◌, ◌-◌, ◌<◌, ◌≤◌, List, [], ◌∷◌, ◌++◌, Some, None, length}
+use Rattle.std.specs.Prelude.{◌≡◌, ◌⊎◌, ℕ, ◌<◌, ◌≤◌, List, [], ◌∷◌, ◌++◌, Some, None, length}
 use Rattle.std.specs.List.{All}
+use Rattle.yt_list.specs.Numbered.{numbered}
 use Rattle.yt_set.specs.declared.task.Task.{Task}
-use Rattle.yt_set.specs.Tasks.{IsTaskSet, FitsLoad, FitsInterval, Fits, within, floor_of, demand_bound, hyperperiod, load}
+use Rattle.yt_set.specs.Tasks.{IsTaskSet, FitsLoad, FitsInterval, Fits, LacksRoom, within, demand_bound, hyperperiod, load}
 use Rattle.yt_log.specs.declared.plan.PlanItem.{PlanItem}
-use Rattle.yt_log.specs.Tasks.{Has, task_of}
+use Rattle.yt_log.specs.Tasks.{Has}
 use Rattle.yt_log.specs.Plan.{IsNext, IsLegal}
 use Rattle.yt_log.specs.Ticks.{Ticks, done, IsWaiting, IsLawful, IsWorkConserving, IsExclusive, KeepsDeadlines, Misses}
 use Rattle.yt_log.specs.EdfDdm.{ComesFirst, choice, IsEdfDdm, edf_ddm}
@@ -23,12 +24,11 @@ pub record OverloadsMiss : Type 0 where
   pub demand : (tasks : List Task) → IsTaskSet tasks → (t : ℕ) → t < demand_bound tasks t → MustMiss tasks (pattern_plan (all_tasks tasks t)) t
   pub load : (tasks : List Task) → IsTaskSet tasks → hyperperiod tasks < load tasks (hyperperiod tasks) → MustMiss tasks (pattern_plan (all_tasks tasks (hyperperiod tasks))) (hyperperiod tasks)
 
--- where a task leaves no room in a span, its job at 0 and what arrives after that must miss a deadline by the span's end
+-- where a task lacks room in a span, its job at 0 and what arrives after that must miss a deadline by the span's end
 abbrev pub BlockersMiss : Type 0
 BlockersMiss =
-    (tasks : List Task) → IsTaskSet tasks → (i : ℕ) → 1 ≤ i → i ≤ length tasks →
-    (floor span : ℕ) → floor_of tasks (task_of tasks i).resource ≡ Some floor → floor < span → span < within (task_of tasks i) →
-    span < (task_of tasks i).cost + demand_bound tasks (span - 1) → MustMiss tasks (pattern_plan (blocker tasks i span)) span
+    (tasks : List Task) → IsTaskSet tasks → (i : ℕ) (task : Task) → numbered tasks i ≡ Some task →
+    (span : ℕ) → LacksRoom tasks span task → MustMiss tasks (pattern_plan (blocker tasks i span)) span
 
 -- a log that is lawful, work-conserving and exclusive
 pub record IsSafe (tasks : List Task) (plan : List PlanItem) (log : Ticks) : Type 0 where
@@ -85,27 +85,30 @@ pub record RuleIsLeast : Type 0 where
   pub some : (tasks : List Task) (plan : List PlanItem) (log : Ticks) (t : ℕ) (item : PlanItem) → ComesFirst tasks plan log t item → choice tasks plan log t ≡ Some item.job
   pub none : (tasks : List Task) (plan : List PlanItem) (log : Ticks) (t : ℕ) → ((item : PlanItem) → Has plan item → IsWaiting log t item → ⊥) → choice tasks plan log t ≡ None
 
--- a plan and a log may grow as time goes on: by an item that may follow, by items that arrive at the log's end or later, and by the tick that the rule gives
-pub record GrowsOnline : Type 0 where
+-- the rule decides as time goes on: a plan and a log may grow by an item that may follow, by items that arrive at the log's end or later, and by the tick that the rule gives
+pub record RuleIsOnline : Type 0 where
   pub item : (tasks : List Task) (plan : List PlanItem) (item : PlanItem) → IsLegal tasks plan → IsNext tasks plan item → IsLegal tasks (plan ++ item ∷ [])
   pub plan : (tasks : List Task) (plan more : List PlanItem) (log : Ticks) → ((item : PlanItem) → Has more item → length log ≤ item.arrival) → IsEdfDdm tasks plan log → IsEdfDdm tasks (plan ++ more) log
   pub tick : (tasks : List Task) (plan : List PlanItem) (log : Ticks) → IsEdfDdm tasks plan log → IsEdfDdm tasks plan (log ++ choice tasks plan log (length log) ∷ [])
 
--- two items of one job and one arrival, and of one cost where the job has begun in the log
-pub record IsLike (log : Ticks) (a b : PlanItem) : Type 0 where
+-- the job of an item isn't done at the log's end, so that the log doesn't tell its cost
+abbrev pub IsUnfinished : Ticks → PlanItem → Type 0
+IsUnfinished log item = done log item.job (length log) < item.cost
+
+-- as far as the log tells, two items are the same: of one job and one arrival, and of one cost or both unfinished
+pub record IsSameSoFar (log : Ticks) (a b : PlanItem) : Type 0 where
   pub job : a.job ≡ b.job
   pub arrival : a.arrival ≡ b.arrival
-  pub cost : 0 < done log a.job (length log) → a.cost ≡ b.cost
-  pub some : (1 ≤ a.cost) × (1 ≤ b.cost)
+  pub cost : (a.cost ≡ b.cost) ⊎ (IsUnfinished log a × IsUnfinished log b)
 
--- two plans of such items
-abbrev pub AreLike : Ticks → List PlanItem → List PlanItem → Type 0
-AreLike log [] [] = Unit {0}
-AreLike log [] (b ∷ ys) = ⊥
-AreLike log (a ∷ xs) [] = ⊥
-AreLike log (a ∷ xs) (b ∷ ys) = IsLike log a b × AreLike log xs ys
+-- as far as the log tells, two plans are the same
+abbrev pub AreSameSoFar : Ticks → List PlanItem → List PlanItem → Type 0
+AreSameSoFar log [] [] = Unit {0}
+AreSameSoFar log [] (b ∷ ys) = ⊥
+AreSameSoFar log (a ∷ xs) [] = ⊥
+AreSameSoFar log (a ∷ xs) (b ∷ ys) = IsSameSoFar log a b × AreSameSoFar log xs ys
 
--- until a job has begun its cost doesn't matter to the rule, nor in the tick in which it begins
-pub record CostsWait : Type 0 where
-  pub choice : (tasks : List Task) (plan other : List PlanItem) (log : Ticks) → AreLike log plan other → (t : ℕ) → t ≤ length log → choice tasks plan log t ≡ choice tasks other log t
-  pub rule : (tasks : List Task) (plan other : List PlanItem) (log : Ticks) → AreLike log plan other → IsEdfDdm tasks plan log → IsEdfDdm tasks other log
+-- of two plans that differ in costs alone which the log doesn't tell, the rule chooses alike in each of its ticks and in the next one
+pub record RuleIsNonClairvoyant : Type 0 where
+  pub choice : (tasks : List Task) (plan other : List PlanItem) (log : Ticks) → AreSameSoFar log plan other → (t : ℕ) → t ≤ length log → choice tasks plan log t ≡ choice tasks other log t
+  pub rule : (tasks : List Task) (plan other : List PlanItem) (log : Ticks) → AreSameSoFar log plan other → IsEdfDdm tasks plan log → IsEdfDdm tasks other log

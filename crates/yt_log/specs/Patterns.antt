@@ -1,12 +1,12 @@
 -- Patterns: arrivals that show that a set does not fit.
-use Rattle.std.specs.Prelude.{ℕ, zero, suc, ◌+◌, ◌-◌, ◌*◌, ◌≤◌, ◌==◌, ◌&&◌, ◌||◌, nat_lt, Bool, List, [], ◌∷◌, ◌++◌, length, if◌then◌else◌}
+use Rattle.std.specs.Prelude.{ℕ, zero, suc, ◌+◌, ◌-◌, ◌*◌, ◌≤◌, ◌==◌, Bool, List, [], ◌∷◌, ◌++◌, length, if◌then◌else◌}
 use Rattle.yt_set.specs.declared.task.Task.{Task}
 use Rattle.yt_set.specs.Tasks.{jobs_due}
 use Rattle.yt_log.specs.declared.plan.PlanItem.{PlanItem}
 use Rattle.yt_log.specs.Tasks.{task_of}
 use Rattle.yt_log.specs.Plan.{IsLegal}
 use Rattle.yt_log.specs.Ticks.{Ticks, IsLawful, IsWorkConserving, IsExclusive, Misses}
-use Rattle.yt_order.specs.Sorting.{sort_by}
+use Rattle.yt_order.specs.Sorting.{before_by, sort_by}
 
 -- the jobs of a task: so many of one cost, the first at a tick, each later one a step after the one before
 pub record Arrivals : Type 0 where
@@ -28,7 +28,7 @@ all_arriving task (a ∷ arrivals) = jobs_arriving task a a.count ++ all_arrivin
 
 -- an item comes before another by arrival, and then by task
 abbrev pub item_before : PlanItem → PlanItem → Bool
-item_before a b = nat_lt a.arrival b.arrival || ((a.arrival == b.arrival) && nat_lt a.job.task b.job.task)
+item_before = before_by (λ (item : PlanItem). item.arrival) (λ (item : PlanItem). item.job.task)
 
 -- the plan of a pattern: all its jobs, in order of arrival and then of task
 abbrev pub pattern_plan : List Arrivals → List PlanItem

@@ -1,5 +1,6 @@
 //! The last job of each task among the items of a plan so far.
-ghost use Rattle.std.specs.Prelude.{◌≡◌, ◌+◌, ◌-◌, ◌≤◌, [], ◌∷◌, List, length, slice_get, slice_set, IsTrue, Some};
+ghost use Rattle.std.specs.Prelude.{◌≡◌, ◌+◌, ◌≤◌, [], ◌∷◌, List, length, IsTrue, Some};
+ghost use Rattle.yt_list.specs.Numbered.{numbered};
 ghost use Rattle.yt_log.specs.declared.plan.PlanItem.{PlanItem};
 ghost use Rattle.yt_set.specs.Limits.{most_tasks, most_ticks};
 ghost use Rattle.yt_log.specs.Limits.{most_arrival};
@@ -40,10 +41,11 @@ impl LastJobs {
     }
 
     /// The last job of a task.
+    #[tactic(auto, using(yt_list::proofs::Lemmas::numbered_place))]
     pub(crate) fn of(&self, task: u32) -> LastJob
         requires positive { 1 ≤ task }
         requires within { task ≤ most_tasks }
-        ensures { slice_get self.now.jobs (task - 1) ≡ Some result }
+        ensures { numbered self.now.jobs task ≡ Some result }
     {
         self.jobs[task as usize - 1]
     }

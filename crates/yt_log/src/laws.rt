@@ -1,5 +1,5 @@
 //! What is proved of every task set, plan and log, as laws.
-ghost use Rattle.yt_log.specs.Laws.{BlockersMiss, CostsWait, DemandKeeps, EveryDemandFits, FitsIsExact, FitsKeeps, FreeFitsKeeps, GrowsOnline, OverloadsMiss, RuleIsDetermined, RuleIsLeast, RuleIsSafe, RuleMakesLogs, RuleMisses};
+ghost use Rattle.yt_log.specs.Laws.{BlockersMiss, RuleIsNonClairvoyant, DemandKeeps, EveryDemandFits, FitsIsExact, FitsKeeps, FreeFitsKeeps, RuleIsOnline, OverloadsMiss, RuleIsDetermined, RuleIsLeast, RuleIsSafe, RuleMakesLogs, RuleMisses};
 ghost use Rattle.yt_log.specs.Worked.{WorkedSchedules};
 
 /// Where the load of a set fits and each job is due at its period's end, no span asks for more ticks than it has.
@@ -66,13 +66,13 @@ pub fn rule_is_least()
 {}
 
 /// What the rule gave stays right while jobs arrive and ticks go by.
-pub fn grows_online()
-    ensures { GrowsOnline }
+pub fn rule_is_online()
+    ensures { RuleIsOnline }
 {}
 
-/// Until a job has begun, the rule gives the same whatever it will cost.
-pub fn costs_wait()
-    ensures { CostsWait }
+/// Until a job is done, the rule gives the same whatever it will cost.
+pub fn rule_is_non_clairvoyant()
+    ensures { RuleIsNonClairvoyant }
 {}
 
 /// What the rule does with the jobs of small sets, and the patterns of sets that don't fit.

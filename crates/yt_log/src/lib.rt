@@ -25,9 +25,9 @@ pub use job::{Job, Segment};
 pub use judge::{Broken, Miss, Rule, first_broken, first_miss};
 pub use last_jobs::LastJob;
 pub use laws::{
-    blockers_miss, costs_wait, demand_keeps, every_demand, fits_is_exact, fits_keeps,
-    free_fits_keeps, grows_online, overloads_miss, rule_is_determined, rule_is_least, rule_is_safe,
-    rule_makes_logs, rule_misses, worked_schedules,
+    blockers_miss, demand_keeps, every_demand, fits_is_exact, fits_keeps, free_fits_keeps,
+    overloads_miss, rule_is_determined, rule_is_least, rule_is_non_clairvoyant, rule_is_online,
+    rule_is_safe, rule_makes_logs, rule_misses, worked_schedules,
 };
 pub use log::Log;
 pub use plan::{Plan, PlanItem};

@@ -5,7 +5,7 @@ use Rattle.yt_graph.specs.declared.expr.Expr.{Expr}
 use Rattle.yt_graph.specs.Picture.{expr_tree, exprs_tree}
 use Rattle.yt_graph.specs.Parts.{expr_weight, exprs_weight}
 use Rattle.yt_graph.specs.Meaning.{expr_value, all_values}
-use Rattle.yt_mean.specs.Within.{IsExprWithin, AreExprsWithin}
+use Rattle.yt_mean.specs.Inside.Within.{IsExprWithin, AreExprsWithin}
 
 pub item_lighter : (es : List Expr) (n : ℕ) (e : Expr) → n < length es → e ≡ get_or es n e → expr_weight (expr_tree e) < exprs_weight (exprs_tree es)
 item_lighter [] n e lt is = absurd (omega arith)

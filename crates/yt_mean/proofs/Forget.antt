@@ -3,7 +3,7 @@ use Rattle.std.proofs.Common.{◌≡◌, ℕ, zero, suc, ◌+◌, refl, sym, ap,
 use Rattle.std.specs.Prelude.{Bool, true, false}
 use Rattle.yt_graph.specs.Picture.{StmtTree, set_local, set_var, send, if_only, if_else, repeat, BlockTree, empty, more}
 use Rattle.yt_graph.specs.Meaning.{Run, expr_value, expr_ticks, spend, is_not_zero, choose, turns_of, turns, stmt_run, block_run}
-use Rattle.yt_mean.specs.Progress.{progress_of, run_of, after, turn_run}
+use Rattle.yt_mean.specs.Inside.Progress.{progress_of, run_of, after, turn_run}
 
 -- a step whose progress hangs on the progress before it alone
 abbrev pub Forgets : (Run → Run) → Type 0

@@ -7,8 +7,8 @@ use Rattle.yt_graph.specs.Meaning.{turns, stmt_run, block_run}
 use Rattle.yt_graph.specs.Cost.{block_cost}
 use Rattle.yt_graph.proofs.Lemmas.{stmt_ticks, block_ticks}
 use Rattle.yt_graph.proofs.Lemmas.{stmt_keeps, block_keeps}
-use Rattle.yt_mean.specs.Progress.{Progress, run_of, after, turn_run}
-use Rattle.yt_mean.specs.Within.{IsBlockWithin}
+use Rattle.yt_mean.specs.Inside.Progress.{Progress, run_of, after, turn_run}
+use Rattle.yt_mean.specs.Inside.Within.{IsBlockWithin}
 use Rattle.yt_mean.proofs.Forget.{turn_forgets, block_forgets, turns_forgets}
 
 -- a block before its statement at i

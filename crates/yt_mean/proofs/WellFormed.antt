@@ -6,8 +6,7 @@ use Rattle.std.proofs.lemmas.Option.{none-some, slice_get_within, get_or_from_sl
 use Rattle.std.proofs.lemmas.List.Elements.{All-get_or}
 use Rattle.yt_graph.specs.Picture.{ExprTree, num, local, var, neg, lnot, two, call, ExprsTree, no_exprs, more_exprs, StmtTree, set_local, set_var, send, if_only, if_else, repeat, BlockTree, empty, more, PortTree, GraphTree}
 use Rattle.yt_graph.specs.WellFormed.{IsFineExpr, AreFineExprs, IsFineStmt, IsFineBlock, IsFinePort, IsWellFormed}
-use Rattle.yt_mean.specs.Handled.{IsHandlerWithin}
-use Rattle.yt_mean.specs.Within.{IsExprWithin, AreExprsWithin, IsStmtWithin, IsBlockWithin}
+use Rattle.yt_mean.specs.Inside.Within.{IsExprWithin, AreExprsWithin, IsStmtWithin, IsBlockWithin, IsHandlerWithin}
 
 place_there : {X : Type 0} (P : X → Type 0) (xs : List X) (i : ℕ) → IsSomeAnd (slice_get xs i) P → i < length xs
 place_there P [] i h = absurd h

@@ -1,20 +1,14 @@
 -- What `handle` asks of a port, and what it answers.
-use Rattle.std.specs.Prelude.{◌≡◌, ℕ, ◌≤◌}
+use Rattle.std.specs.Prelude.{◌≡◌, ℕ}
 use Rattle.std.specs.Option.{ForSome}
 use Rattle.yt_list.specs.Numbered.{numbered}
 use Rattle.yt_graph.specs.Picture.{PortTree, GraphTree}
 use Rattle.yt_graph.specs.Meaning.{Handling}
 use Rattle.yt_mean.specs.declared.handled.Handled.{Handled}
-use Rattle.yt_mean.specs.Within.{IsBlockWithin}
 
 -- a fact about the port with this number, from 1
 abbrev pub ForPort : GraphTree → ℕ → (PortTree → Type 0) → Type 0
 ForPort graph number P = ForSome (numbered graph.ports number) P
-
--- a port's handler has a local for each number of a message, and names only locals and variables that are there
-pub record IsHandlerWithin (vars : ℕ) (port : PortTree) : Type 0 where
-  pub params : port.params ≤ port.locals
-  pub places : IsBlockWithin port.locals vars port.body
 
 -- an answer tells a handling's variables, sends and ticks, and leaves its writes out
 pub record Tells (answer : Handled) (handling : Handling) : Type 0 where

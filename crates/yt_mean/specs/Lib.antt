@@ -1,3 +1,4 @@
+-- What `handle` asks of a port, and what it answers.
 pub mod Handled
-pub mod Progress
-pub mod Within
+-- What a walk over a handler asks and keeps.
+pub mod Inside

@@ -6,7 +6,8 @@ ghost use Rattle.yt_graph.specs.Meaning.{handler_run, handling, handling_of};
 ghost use Rattle.yt_graph.specs.Cost.{greatest_cost};
 ghost use Rattle.yt_graph.specs.Limits.{most_cost};
 ghost use Rattle.yt_graph.specs.WellFormed.{IsWellFormed};
-ghost use Rattle.yt_mean.specs.Handled.{ForPort, IsHandlerWithin, Tells};
+ghost use Rattle.yt_mean.specs.Handled.{ForPort, Tells};
+ghost use Rattle.yt_mean.specs.Inside.Within.{IsHandlerWithin};
 
 use crate::walk::Walk;
 use std::alloc::{AllocError, Global};

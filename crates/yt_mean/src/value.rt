@@ -3,7 +3,7 @@
 ghost use Rattle.std.specs.Prelude.{◌≡◌, ◌^◌, ◌<◌, pos, length, slice_index_or, IfOk};
 ghost use Rattle.yt_graph.specs.Picture.{expr_tree, exprs_tree};
 ghost use Rattle.yt_graph.specs.Meaning.{expr_value, all_values, expr_ticks, all_ticks};
-ghost use Rattle.yt_mean.specs.Within.{IsExprWithin, AreExprsWithin};
+ghost use Rattle.yt_mean.specs.Inside.Within.{IsExprWithin, AreExprsWithin};
 
 use std::alloc::{AllocError, Global};
 use yt_graph::{Expr, ExprParts, applied, inverted, negated, open_expr, operator_value};

@@ -4,8 +4,8 @@ ghost use Rattle.std.specs.Prelude.{◌≡◌, ◌+◌, ◌*◌, ◌^◌, ◌<�
 ghost use Rattle.yt_graph.specs.Picture.{set_local, set_var, send, expr_tree, exprs_tree, stmt_tree, block_tree};
 ghost use Rattle.yt_graph.specs.Meaning.{expr_value, expr_ticks, all_ticks, spend, is_not_zero, turns_of, turns, stmt_run, block_run, start};
 ghost use Rattle.yt_graph.specs.Cost.{stmt_cost, block_cost};
-ghost use Rattle.yt_mean.specs.Progress.{progress_of, after, turn_run};
-ghost use Rattle.yt_mean.specs.Within.{IsExprWithin, AreExprsWithin, IsStmtWithin, IsBlockWithin};
+ghost use Rattle.yt_mean.specs.Inside.Progress.{progress_of, after, turn_run};
+ghost use Rattle.yt_mean.specs.Inside.Within.{IsExprWithin, AreExprsWithin, IsStmtWithin, IsBlockWithin};
 
 use crate::handled::Handled;
 use crate::value::{ticks, value, values, values_ticks};
@@ -24,7 +24,7 @@ pub struct Walk {
 }
 
 impl Model for Walk {
-    ghost use Rattle.yt_mean.specs.Progress.{Progress};
+    ghost use Rattle.yt_mean.specs.Inside.Progress.{Progress};
 
     ghost Value = { Progress };
 

@@ -5,5 +5,6 @@ mod HandlerLemmas
 mod IndexLemmas
 pub mod Lemmas
 mod ListLemmas
+mod OwnLemmas
 mod PartLemmas
 mod TreeLemmas

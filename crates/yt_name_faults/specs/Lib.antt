@@ -6,3 +6,4 @@ pub mod Faults
 pub mod Answer
 pub mod Laws
 pub mod Parts
+pub mod Inside

@@ -1,7 +1,10 @@
 -- Names that are declared, and what a name stands for: its first declaration.
-use Rattle.std.specs.Prelude.{ℕ, ◌==◌, Bool, not, List, map, Option, None, Some, false}
+use Rattle.std.specs.Prelude.{ℕ, ◌==◌, Bool, not, List, [], map, Option, None, Some, false}
 use Rattle.yt_graph.specs.declared.ast.VarDecl.{VarDecl}
 use Rattle.yt_graph.specs.declared.ast.OutDecl.{OutDecl}
+use Rattle.yt_graph.specs.declared.ast.PortDecl.{PortDecl}
+use Rattle.yt_graph.specs.declared.ast.Item.{Item}
+use Rattle.yt_graph.specs.declared.ast.Item.TheVariants.{Input, Output, Resource, Process}
 use Rattle.yt_graph.specs.declared.operator.OpHead.{OpHead}
 use Rattle.yt_graph.specs.AstPicture.{PortDeclTree, ItemTree}
 use Rattle.yt_graph.specs.ItemNames.{item_name}
@@ -17,6 +20,19 @@ item_names items = map item_name items
 
 abbrev pub port_names : List PortDeclTree → List (List ℕ)
 port_names ports = map (λ p. p.name.text) ports
+
+-- the variables and the ports that a part declares
+abbrev pub var_decls : Item → List VarDecl
+var_decls (Input w width period) = []
+var_decls (Output w path) = []
+var_decls (Resource w) = []
+var_decls (Process w inside vars ports) = vars
+
+abbrev pub port_decls : Item → List PortDecl
+port_decls (Input w width period) = []
+port_decls (Output w path) = []
+port_decls (Resource w) = []
+port_decls (Process w inside vars ports) = ports
 
 abbrev pub var_names : List VarDecl → List (List ℕ)
 var_names vars = map (λ v. v.name.text) vars

@@ -9,6 +9,9 @@ use Rattle.yt_name_faults.specs.Paths.{Placed}
 abbrev pub placed_of : Part → Placed
 placed_of p = record { first = p.first; item = item_tree p.item.now }
 
+abbrev pub tree_of : Part → ItemTree
+tree_of p = item_tree p.item.now
+
 abbrev pub port_of : PortPart → PortDeclTree
 port_of p = port_decl_tree p.decl.now
 

@@ -3,13 +3,14 @@ ghost use Rattle.std.specs.Prelude.{◌≡◌, map, slice_get, IfOk};
 ghost use Rattle.std.specs.Option.{option_map};
 ghost use Rattle.yt_table.specs.Tables.{first_of};
 ghost use Rattle.yt_name_faults.specs.Names.{item_names};
-ghost use Rattle.yt_name_faults.specs.Parts.{placed_of, port_of, trees};
+ghost use Rattle.yt_graph.specs.AstPicture.{port_decl_tree};
+ghost use Rattle.yt_name_faults.specs.Parts.{placed_of, tree_of, trees};
 ghost use Rattle.yt_name_faults.specs.Paths.{placed_from, placed_named, all_ports};
 
-use crate::part::{Part, PortPart, add_part};
+use crate::part::{Part, add_part};
 use std::alloc::{AllocError, Global};
 use std::marker::Model;
-use yt_graph::Item;
+use yt_graph::{Item, PortDecl};
 use yt_table::NameTable;
 
 /// The parts of a graph, with the numbers of their ports and what their names stand for. A contract sees the list of parts.
@@ -17,7 +18,7 @@ use yt_table::NameTable;
 pub struct Index<'a> {
     items: NameTable<'a, Item>,
     parts: Vec<Part<'a>>,
-    ports: Vec<PortPart<'a>>,
+    ports: Vec<&'a PortDecl>,
 }
 
 impl<'a> Model for Index<'a> {
@@ -25,7 +26,8 @@ impl<'a> Model for Index<'a> {
     ghost use Rattle.std.specs.Coded.{codes};
     ghost use Rattle.yt_graph.specs.contracts.ast.Item as item;
     ghost use Rattle.yt_graph.specs.declared.ast.Item as graph;
-    ghost use Rattle.yt_name_faults.specs.Parts.{placed_of, port_of, trees};
+    ghost use Rattle.yt_graph.specs.AstPicture.{port_decl_tree};
+    ghost use Rattle.yt_name_faults.specs.Parts.{placed_of, trees};
     ghost use Rattle.yt_name_faults.specs.Paths.{placed_from, all_ports};
 
     ghost Value = { List graph.Item };
@@ -34,7 +36,7 @@ impl<'a> Model for Index<'a> {
 
     ghost view = { λ x. x.items };
 
-    ghost invariant = { λ x. (map placed_of x.parts.items ≡ placed_from 0 (trees x.items)) × (map port_of x.ports.items ≡ all_ports (trees x.items)) };
+    ghost invariant = { λ x. (map placed_of x.parts.items ≡ placed_from 0 (trees x.items)) × (map (λ p. port_decl_tree p.now) x.ports.items ≡ all_ports (trees x.items)) };
 }
 
 impl<'a> Index<'a> {
@@ -63,16 +65,17 @@ impl<'a> Index<'a> {
         self.items.find(name)
     }
 
-    /// All parts.
-    pub(crate) fn parts(&self) -> &[Part<'a>]
-        ensures { map placed_of result.now ≡ placed_from 0 (trees self.now) }
+    /// All parts, in order.
+    pub fn parts(&self) -> &[Part<'a>]
+        ensures items { map tree_of result.now ≡ trees self.now }
+        ensures placed { map placed_of result.now ≡ placed_from 0 (trees self.now) }
     {
         &self.parts
     }
 
-    /// All ports.
-    pub(crate) fn ports(&self) -> &[PortPart<'a>]
-        ensures { map port_of result.now ≡ all_ports (trees self.now) }
+    /// All ports, by their numbers.
+    pub(crate) fn ports(&self) -> &[&'a PortDecl]
+        ensures { map (λ p. port_decl_tree p.now) result.now ≡ all_ports (trees self.now) }
     {
         &self.ports
     }
@@ -90,12 +93,5 @@ impl<'a> Index<'a> {
         ensures { option_map (λ p. placed_of p.now) result ≡ slice_get (placed_from 0 (trees self.now)) n }
     {
         self.parts.get(n)
-    }
-
-    /// The port of a number.
-    pub(crate) fn port(&self, n: usize) -> Option<&PortPart<'a>>
-        ensures { option_map (λ p. port_of p.now) result ≡ slice_get (all_ports (trees self.now)) n }
-    {
-        self.ports.get(n)
     }
 }

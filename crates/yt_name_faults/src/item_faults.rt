@@ -1,6 +1,6 @@
 //! The faults of a graph's parts.
 ghost use Rattle.std.specs.Prelude.{◌≡◌, OnOk, IfOk, map};
-ghost use Rattle.yt_graph.specs.AstPicture.{item_tree, port_decl_tree};
+ghost use Rattle.yt_graph.specs.AstPicture.{item_tree};
 ghost use Rattle.yt_name_faults.specs.First.{least_with, first_fault};
 ghost use Rattle.std.specs.Option.{option_copied};
 ghost use Rattle.yt_name_faults.specs.Parts.{placed_of, trees};
@@ -18,8 +18,7 @@ use crate::room::Room;
 use crate::rules::Rules;
 use crate::target::Target;
 use std::alloc::{AllocError, Global};
-use yt_graph::{Item, MOST_PERIOD, MOST_WIDTH, OpHead, PortDecl, VarDecl, Word};
-use yt_table::NameTable;
+use yt_graph::{Item, MOST_PERIOD, MOST_WIDTH, OpHead, Word};
 
 /// The fault of a graph's names that decides, if there is one.
 #[tactic(auto, unfolding(crate::specs::Faults::name_faults))]
@@ -37,11 +36,11 @@ pub fn first_fault<'a>(
 }
 
 /// Notes the faults of parts.
-fn items_faults<'a>(
+fn items_faults(
     alloc: Global,
-    rules: &Rules<'_, 'a>,
+    rules: &Rules,
     least: &mut Least,
-    parts: &[Part<'a>],
+    parts: &[Part],
 ) -> Result<(), AllocError>
     ensures { OnOk result (least.new ≡ least_with (items_faults (trees rules.now.index.now) rules.now.ops.now 0 full_room (map placed_of parts.now)) least.old) }
 {
@@ -55,13 +54,13 @@ fn items_faults<'a>(
 
 /// Notes the faults of a part.
 #[tactic(auto, using(crate::proofs::FirstLemmas::both))]
-fn item_faults<'a>(
+fn item_faults(
     alloc: Global,
-    rules: &Rules<'_, 'a>,
+    rules: &Rules,
     least: &mut Least,
     n: usize,
     room: Room,
-    part: &Part<'a>,
+    part: &Part,
 ) -> Result<(), AllocError>
     ensures { OnOk result (least.new ≡ least_with (item_faults (trees rules.now.index.now) rules.now.ops.now n part.now.first room (item_tree part.now.item.now)) least.old) }
 {
@@ -88,24 +87,11 @@ fn item_faults<'a>(
             declared_faults(least, name, n, first, room.resources, LimitKind::Resources);
             Ok(())
         }
-        Item::Process {
-            name,
-            inside,
-            vars,
-            ports,
-        } => {
+        Item::Process { name, inside, .. } => {
             let first = rules.index.place(name.text.as_slice());
             declared_faults(least, name, n, first, room.processes, LimitKind::Processes);
             inside_faults(rules.index, least, inside.as_ref());
-            process_faults(
-                alloc,
-                rules,
-                least,
-                part,
-                room,
-                vars.as_slice(),
-                ports.as_slice(),
-            )
+            process_faults(alloc, rules, least, part, room)
         }
     }
 }
@@ -145,19 +131,15 @@ fn is_resource(item: &Item) -> bool
 
 /// Notes the faults of a process's variables and ports.
 #[tactic(auto, using(crate::proofs::FirstLemmas::both))]
-fn process_faults<'a>(
+fn process_faults(
     alloc: Global,
-    rules: &Rules<'_, 'a>,
+    rules: &Rules,
     least: &mut Least,
-    part: &Part<'a>,
+    part: &Part,
     room: Room,
-    vars: &'a [VarDecl],
-    ports: &'a [PortDecl],
 ) -> Result<(), AllocError>
-    requires { ports_of (item_tree part.now.item.now) ≡ map port_decl_tree ports.now }
-    ensures { OnOk result (least.new ≡ least_with (process_faults (trees rules.now.index.now) rules.now.ops.now part.now.first room vars.now (map port_decl_tree ports.now)) least.old) }
+    ensures { OnOk result (least.new ≡ least_with (process_faults (trees rules.now.index.now) rules.now.ops.now part.now.first room part.now.vars (ports_of (item_tree part.now.item.now))) least.old) }
 {
-    let vars = NameTable::new(alloc, vars)?;
-    vars_faults(least, &vars, room.vars);
-    ports_faults(alloc, rules, least, part, &vars, ports, room.ports)
+    vars_faults(least, &part.vars, room.vars);
+    ports_faults(alloc, rules, least, part, room.ports)
 }

@@ -28,6 +28,7 @@ pub use fault::{LimitKind, NameFault};
 pub use index::Index;
 pub use item_faults::first_fault;
 pub use laws::cycles_are_told;
+pub use part::{Part, PortPart};
 pub use paths::look_up;
 pub use room::Room;
 pub use target::Target;

@@ -1,9 +1,10 @@
 //! What sources and paths lead to, or the fault of their words.
-ghost use Rattle.std.specs.Prelude.{◌≡◌, ℕ, List, IfOk};
+ghost use Rattle.std.specs.Prelude.{◌≡◌, ◌<◌, length, IfSome, Some};
 ghost use Rattle.std.specs.Option.{option_map, option_copied};
 ghost use Rattle.yt_graph.specs.AstPicture.{item_tree};
+ghost use Rattle.yt_name_faults.specs.Inside.OwnParts.{in_own_part, own_port_at};
 ghost use Rattle.yt_name_faults.specs.Parts.{port_of, trees};
-ghost use Rattle.yt_name_faults.specs.Paths.{look_up, in_part, port_at, out_of_port, named_out, source_width, input_width, port_before};
+ghost use Rattle.yt_name_faults.specs.Paths.{look_up, out_of_port, ports_of, source_width, input_width, port_before};
 
 use crate::fault::NameFault;
 use crate::index::Index;
@@ -18,47 +19,42 @@ pub fn look_up(index: &Index, path: &Path) -> Result<Target, NameFault>
 {
     match index.named(path.process.text.as_slice()) {
         None => Err(NameFault::Unknown(path.process.place)),
-        Some(part) => look_in_part(index, path, part),
+        Some(part) => look_in_part(path, part),
     }
 }
 
 /// What a path leads to whose first word stands for this part.
-fn look_in_part(index: &Index, path: &Path, part: &Part) -> Result<Target, NameFault>
-    ensures { result ≡ in_part (trees index.now) path.now part.now.first (item_tree part.now.item.now) }
+fn look_in_part(path: &Path, part: &Part) -> Result<Target, NameFault>
+    ensures { result ≡ in_own_part path.now part.now.first (item_tree part.now.item.now) }
 {
     match part.item {
-        Item::Process { .. } => { look_at_port(index, path, part.port(path.port.text.as_slice())) }
+        Item::Process { .. } => look_at_port(path, part, part.place(path.port.text.as_slice())),
         _ => Err(NameFault::Kind(path.process.place)),
     }
 }
 
-/// What a path leads to whose second word stands for a port of this number.
-fn look_at_port(index: &Index, path: &Path, port: Option<usize>) -> Result<Target, NameFault>
-    ensures { result ≡ port_at (trees index.now) path.now port }
+/// What a path leads to whose second word stands for the port at a place of this part. The caller shows that there is one.
+fn look_at_port(path: &Path, part: &Part, place: Option<usize>) -> Result<Target, NameFault>
+    requires { IfSome place (λ n. n < length part.now.ports.items) }
+    ensures { result ≡ own_port_at path.now part.now.first (ports_of (item_tree part.now.item.now)) place }
 {
-    match port {
+    match place {
         None => Err(NameFault::Unknown(path.port.place)),
-        Some(n) => look_in_port(path, n, index.port(n)),
+        Some(n) => look_in_port(path, part.first + n, &part.ports[n]),
     }
 }
 
-/// What a path leads to whose second word stands for this port.
-fn look_in_port(path: &Path, n: usize, port: Option<&PortPart>) -> Result<Target, NameFault>
-    ensures { result ≡ out_of_port path.now n (option_map (λ p. port_of p.now) port.entry) }
+/// What a path leads to whose second word stands for this port, of this number.
+fn look_in_port(path: &Path, n: usize, port: &PortPart) -> Result<Target, NameFault>
+    ensures { result ≡ out_of_port path.now n (Some (port_of port.now)) }
 {
-    match port {
-        None => Err(NameFault::Unknown(path.port.place)),
-        Some(part) => match part.outs.find(path.out.text.as_slice()) {
-            None => Err(NameFault::Unknown(path.out.place)),
-            Some(out) => match part.outs.all().get(out) {
-                None => Err(NameFault::Unknown(path.out.place)),
-                Some(decl) => Ok(Target {
-                    port: n,
-                    out,
-                    width: decl.width,
-                }),
-            },
-        },
+    match port.outs.find(path.out.text.as_slice()) {
+        None => Err(NameFault::Unknown(path.out.place)),
+        Some(out) => Ok(Target {
+            port: n,
+            out,
+            width: port.outs.all()[out].width,
+        }),
     }
 }
 

@@ -50,7 +50,7 @@ fn befores(alloc: Global, index: &Index) -> Result<Vec<Option<usize>>, AllocErro
     let ports = index.ports();
     let mut all = Vec::with_capacity(alloc, ports.len())?;
     for port in ports {
-        all.push(port_before(index, &port.decl.source))?;
+        all.push(port_before(index, &port.source))?;
     }
     Ok(all)
 }

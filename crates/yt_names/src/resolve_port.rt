@@ -1,8 +1,7 @@
 //! Ports of the resolved graph.
 ghost use Rattle.std.specs.Prelude.{◌≡◌, ◌++◌, length, map, OnOk, IfOk};
-ghost use Rattle.yt_graph.specs.AstPicture.{item_tree, port_decl_tree};
 ghost use Rattle.yt_graph.specs.Picture.{block_tree, port_tree};
-ghost use Rattle.yt_name_faults.specs.Parts.{trees};
+ghost use Rattle.yt_name_faults.specs.Parts.{port_of, tree_of, trees};
 ghost use Rattle.yt_names.specs.Resolved.{number_among, resolved_inputs, resolved_groups, resolved_feed, feed_to, group_of, resolved_port, resolved_ports_of, resource_name, vars_of};
 ghost use Rattle.std.specs.Option.{option_copied};
 
@@ -12,11 +11,9 @@ use crate::resolve_handler::resolve_handler;
 use crate::scope::Scope;
 use crate::uses_var::block_uses_var;
 use std::alloc::{AllocError, Global};
-use yt_graph::{
-    Feed, Inputs, Item, OpHead, Port, PortDecl, Ports, Source, Stmt, VarDecl, Vars, Word,
-};
+use yt_graph::{Feed, Inputs, Item, OpHead, Port, Ports, Source, Stmt, VarDecl, Vars, Word};
 use yt_list::{Named, Names};
-use yt_name_faults::{Index, NameFault, Target, look_up};
+use yt_name_faults::{Index, NameFault, Part, PortPart, Target, look_up};
 use yt_table::{NameTable, first_named};
 
 /// What ports are resolved by: the names of the graph, the operators, and the inputs and resources.
@@ -44,32 +41,26 @@ pub(crate) struct Owner<'e, 'a> {
 }
 
 /// Adds the variables and ports of a part.
-pub(crate) fn add_part<'a>(
+pub(crate) fn add_part(
     alloc: Global,
-    heads: &Heads<'_, 'a>,
+    heads: &Heads,
     vars: &mut Vars,
     ports: &mut Ports,
-    item: &'a Item,
+    part: &Part,
 ) -> Result<(), AllocError>
-    ensures vars { OnOk result (vars.new ≡ vars.old ++ vars_of (item_tree item.now)) }
-    ensures ports { OnOk result (map port_tree ports.new ≡ map port_tree ports.old ++ resolved_ports_of (trees heads.now.index.now) heads.now.ops.now (length vars.old) (item_tree item.now)) }
+    ensures vars { OnOk result (vars.new ≡ vars.old ++ vars_of (tree_of part.now)) }
+    ensures ports { OnOk result (map port_tree ports.new ≡ map port_tree ports.old ++ resolved_ports_of (trees heads.now.index.now) heads.now.ops.now (length vars.old) (tree_of part.now)) }
 {
-    match item {
-        Item::Process {
-            name,
-            inside,
-            vars: decls,
-            ports: port_decls,
-        } => {
-            let declared = NameTable::new(alloc, decls.as_slice())?;
+    match part.item {
+        Item::Process { name, inside, .. } => {
             let owner = Owner {
                 name,
                 key: resource_word(name, inside.as_ref()),
-                vars: &declared,
+                vars: &part.vars,
                 first: vars.len(),
             };
-            add_ports(alloc, heads, ports, &owner, port_decls.as_slice())?;
-            add_vars(alloc, vars, name, decls.as_slice())
+            add_ports(alloc, heads, ports, &owner, &part.ports)?;
+            add_vars(alloc, vars, name, part.vars.all())
         }
         _ => Ok(()),
     }
@@ -86,33 +77,33 @@ fn resource_word<'a>(name: &'a Word, inside: Option<&'a Word>) -> &'a Word
 }
 
 /// Adds the ports of a process.
-fn add_ports<'a>(
+fn add_ports(
     alloc: Global,
-    heads: &Heads<'_, 'a>,
+    heads: &Heads,
     ports: &mut Ports,
-    owner: &Owner<'_, 'a>,
-    decls: &'a [PortDecl],
+    owner: &Owner,
+    parts: &[PortPart],
 ) -> Result<(), AllocError>
-    ensures { OnOk result (map port_tree ports.new ≡ map port_tree ports.old ++ map (resolved_port (trees heads.now.index.now) owner.now.name.now.text owner.now.key.now.text heads.now.ops.now owner.now.vars.now owner.now.first) (map port_decl_tree decls.now)) }
+    ensures { OnOk result (map port_tree ports.new ≡ map port_tree ports.old ++ map (resolved_port (trees heads.now.index.now) owner.now.name.now.text owner.now.key.now.text heads.now.ops.now owner.now.vars.now owner.now.first) (map port_of parts.now)) }
 {
-    for decl in decls {
-        let port = resolve_port(alloc, heads, owner, decl)?;
+    for part in parts {
+        let port = resolve_port(alloc, heads, owner, part)?;
         ports.push(port)?;
     }
     Ok(())
 }
 
 /// What a port is by its names.
-fn resolve_port<'a>(
+fn resolve_port(
     alloc: Global,
-    heads: &Heads<'_, 'a>,
-    owner: &Owner<'_, 'a>,
-    decl: &'a PortDecl,
+    heads: &Heads,
+    owner: &Owner,
+    part: &PortPart,
 ) -> Result<Port, AllocError>
-    ensures { IfOk result (λ p. port_tree p ≡ resolved_port (trees heads.now.index.now) owner.now.name.now.text owner.now.key.now.text heads.now.ops.now owner.now.vars.now owner.now.first (port_decl_tree decl.now)) }
+    ensures { IfOk result (λ p. port_tree p ≡ resolved_port (trees heads.now.index.now) owner.now.name.now.text owner.now.key.now.text heads.now.ops.now owner.now.vars.now owner.now.first (port_of part.now)) }
 {
-    let outs = NameTable::new(alloc, decl.outs.as_slice())?;
-    let scope = Scope::new(owner.first, owner.vars, &outs, heads.ops);
+    let decl = part.decl;
+    let scope = Scope::new(owner.first, owner.vars, &part.outs, heads.ops);
     let handler = resolve_handler(alloc, &scope, decl.params.as_slice(), &decl.body)?;
     Ok(Port {
         process: name(alloc, owner.name)?,

@@ -60,7 +60,7 @@ fn resolve_all<'a>(
         inputs: resolve_inputs(alloc, items)?,
         groups: resolve_groups(alloc, items)?,
     };
-    let (vars, ports) = resolve_parts(alloc, &heads, items)?;
+    let (vars, ports) = resolve_parts(alloc, &heads)?;
     Ok(Graph {
         inputs: heads.inputs,
         outputs,
@@ -71,18 +71,14 @@ fn resolve_all<'a>(
 }
 
 /// The variables and the ports.
-fn resolve_parts<'a>(
-    alloc: Global,
-    heads: &Heads<'_, 'a>,
-    items: &'a [Item],
-) -> Result<(Vars, Ports), AllocError>
-    ensures vars { IfOk result (λ r. r.0 ≡ resolved_vars (trees items.now)) }
-    ensures ports { IfOk result (λ r. map port_tree r.1 ≡ resolved_ports (trees heads.now.index.now) heads.now.ops.now 0 (trees items.now)) }
+fn resolve_parts(alloc: Global, heads: &Heads) -> Result<(Vars, Ports), AllocError>
+    ensures vars { IfOk result (λ r. r.0 ≡ resolved_vars (trees heads.now.index.now)) }
+    ensures ports { IfOk result (λ r. map port_tree r.1 ≡ resolved_ports (trees heads.now.index.now) heads.now.ops.now 0 (trees heads.now.index.now)) }
 {
     let mut vars = Vars::new(alloc);
     let mut ports = Ports::new(alloc);
-    for item in items {
-        add_part(alloc, heads, &mut vars, &mut ports, item)?;
+    for part in heads.index.parts() {
+        add_part(alloc, heads, &mut vars, &mut ports, part)?;
     }
     Ok((vars, ports))
 }

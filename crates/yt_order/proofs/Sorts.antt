@@ -1,5 +1,5 @@
 -- Putting a list in order.
-use Rattle.std.proofs.Common.{◌≡◌, ℕ, zero, suc, ◌+◌, Bool, true, false, cond, List, [], ◌∷◌, get_or, refl, sym, ap, subst, ◌∙◌, ⊎_elim, arith}
+use Rattle.std.proofs.Common.{◌≡◌, ℕ, zero, suc, ◌+◌, ◌<◌, ◌≤◌, Bool, true, false, cond, List, [], ◌∷◌, get_or, refl, sym, ap, subst, ◌∙◌, ⊎_elim, arith}
 use Rattle.std.specs.Cmp.{IsStrictWeakOrder}
 use Rattle.std.specs.List.{filter}
 use Rattle.std.specs.List.Sorted.{IsPermutation, IsSortedBy, ties}
@@ -7,7 +7,27 @@ use Rattle.std.proofs.lemmas.Bool.{cases_Bool, cond-true, cond-false}
 use Rattle.std.proofs.lemmas.Bool.Decides.{nat_tests}
 use Rattle.std.proofs.lemmas.Grind.{common_steps}
 use Rattle.std.proofs.lemmas.List.Sorted.{IsPermutation-trans, IsPermutation-append, IsPermutation-middle, IsPermutation-refl}
-use Rattle.yt_order.specs.Sorting.{SortingSorts, TwoNumbersCompare, insert_by, sort_by}
+use Rattle.yt_order.specs.Sorting.{SortingSorts, TwoNumbersCompare, before_by, insert_by, sort_by}
+
+-- put behind an element that stands before it, or in front of one that doesn't
+pub insert_behind : {X : Type 0} (before : X → X → Bool) (x y : X) (ys : List X) → before y x ≡ true → insert_by before x (y ∷ ys) ≡ y ∷ insert_by before x ys
+insert_behind before x y ys h = cond-true (before y x) (y ∷ insert_by before x ys) (x ∷ y ∷ ys) h
+
+pub insert_in_front : {X : Type 0} (before : X → X → Bool) (x y : X) (ys : List X) → before y x ≡ false → insert_by before x (y ∷ ys) ≡ x ∷ y ∷ ys
+insert_in_front before x y ys h = cond-false (before y x) (y ∷ insert_by before x ys) (x ∷ y ∷ ys) h
+
+-- what two first numbers tell of which of two things stands before the other, and the other way round
+pub first_less : {X : Type 0} (first second : X → ℕ) (a b : X) → first a < first b → before_by first second a b ≡ true
+first_less first second a b h = grind (arith, nat_tests)
+
+pub first_greater : {X : Type 0} (first second : X → ℕ) (a b : X) → first b < first a → before_by first second a b ≡ false
+first_greater first second a b h = grind (arith, nat_tests)
+
+pub first_no_greater : {X : Type 0} (first second : X → ℕ) (a b : X) → before_by first second a b ≡ true → first a ≤ first b
+first_no_greater first second a b h = grind (arith, nat_tests)
+
+pub first_no_less : {X : Type 0} (first second : X → ℕ) (a b : X) → before_by first second a b ≡ false → first b ≤ first a
+first_no_less first second a b h = grind (arith, nat_tests)
 
 module _ {X : Type 0} (before : X → X → Bool) where
   -- one in front of both lists

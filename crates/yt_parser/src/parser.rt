@@ -3,7 +3,7 @@
 ghost use Rattle.std.specs.Prelude.{◌≡◌, ◌≤◌, None, length, List, IfOk, IfErr};
 ghost use Rattle.yt_graph.specs.AstPicture.{ItemTree, ast_tree};
 ghost use Rattle.yt_graph.specs.AstWellFormed.{IsWritable};
-ghost use Rattle.yt_lexer.specs.Limits.{most_text_bytes};
+ghost use Rattle.yt_base.specs.Limits.{most_text_bytes};
 ghost use Rattle.yt_lexer.specs.Lexes.{Lexes};
 ghost use Rattle.yt_grammar.specs.Lexemes.{toks_of};
 ghost use Rattle.yt_grammar.specs.Grammar.{Spells};

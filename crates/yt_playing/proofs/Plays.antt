@@ -1,21 +1,22 @@
 -- What a play of a legal plan keeps, and what is due to it.
-use Rattle.std.proofs.Common.{◌≡◌, ℕ, zero, suc, ◌+◌, ◌<◌, ◌≤◌, List, [], ◌∷◌, length, refl, sym, ap, subst, ◌∙◌, inl, inr, ⊎_elim, arith}
-use Rattle.std.proofs.lemmas.Bool.{cases_lt}
+use Rattle.std.proofs.Common.{◌≡◌, ℕ, ◌+◌, ◌≤◌, List, [], ◌∷◌, length, refl, sym, ap, subst, ◌∙◌, inl, inr, ⊎_elim, arith}
 use Rattle.yt_answer.specs.Due.{IsDue}
 use Rattle.yt_answer.specs.declared.verdict.Verdict.{Verdict}
 use Rattle.yt_answer.specs.declared.verdict.Verdict.TheVariants.{Done, Missed}
 use Rattle.yt_set.specs.declared.task.Task.{Task}
+use Rattle.yt_set.specs.Limits.{most_ticks}
 use Rattle.yt_set.specs.NamedTasks.{NamedTasks}
 use Rattle.yt_set.specs.Tasks.{IsTask, IsTaskSet, Fits}
 use Rattle.yt_log.specs.declared.job.Job.{Job}
 use Rattle.yt_log.specs.declared.plan.PlanItem.{PlanItem}
-use Rattle.yt_log.specs.EdfDdm.{IsEdfDdm, edf_ddm}
+use Rattle.yt_log.specs.EdfDdm.{edf_ddm}
 use Rattle.yt_log.specs.Judging.{IsFirstMiss}
+use Rattle.yt_log.specs.Limits.{most_arrival, most_deadline}
 use Rattle.yt_log.specs.Patterns.{MustMiss}
 use Rattle.yt_log.specs.Plan.{IsLegal, IsLegalPlan, deadline_of, horizon}
 use Rattle.yt_log.specs.Tasks.{Has, task_of}
-use Rattle.yt_log.specs.Ticks.{Ticks, tick, IsLawful, KeepsDeadlines, Misses}
-use Rattle.yt_log.proofs.Lemmas.{Agree, choice_same, done_same, has_task, rule_is_safe, has_all, fits_keeps, rule_makes_logs, good_item}
+use Rattle.yt_log.specs.Ticks.{Ticks, IsLawful, KeepsDeadlines, Misses}
+use Rattle.yt_log.proofs.Lemmas.{done_same, has_task, rule_is_safe, has_all, fits_keeps, rule_makes_logs, good_item, same_so_far}
 use Rattle.yt_playing.specs.Plays.{Ending, IsEndingText, IsPlay, PlayKeeps, PlayMisses, ShowsMiss, ending_verdict, keeps, misses, played}
 use Rattle.yt_playing.specs.Texts.{kept_text, missed_text}
 
@@ -32,7 +33,7 @@ unfit_missed tasks plan job set legal first fits =
     omega (arith, first.misses.short)
 
 -- the period of a task of a set in range
-period_of_task : (tasks : List Task) (n : ℕ) → IsTaskSet tasks → 1 ≤ n → n ≤ length tasks → (task_of tasks n).period ≤ 1000000
+period_of_task : (tasks : List Task) (n : ℕ) → IsTaskSet tasks → 1 ≤ n → n ≤ length tasks → (task_of tasks n).period ≤ most_ticks
 period_of_task tasks n set from_one within = let h = has_all IsTask tasks set.1 (task_of tasks n) (has_task tasks n from_one within) in h.3
 
 -- deadlines that are all at most a tick have a greatest that is
@@ -43,17 +44,17 @@ horizon_most tasks most (x ∷ xs) h =
     let rest = horizon_most tasks most xs (λ i is. h i (inr is)) in
     omega arith
 
-deadline_most : (tasks : List Task) (plan : List PlanItem) (i : PlanItem) → IsTaskSet tasks → IsLegalPlan tasks plan → Has plan i → deadline_of tasks i ≤ 9000000
+deadline_most : (tasks : List Task) (plan : List PlanItem) (i : PlanItem) → IsTaskSet tasks → IsLegalPlan tasks plan → Has plan i → deadline_of tasks i ≤ most_deadline
 unfolding deadline_of
 deadline_most tasks plan i set legal is =
     let good = good_item tasks plan legal.legal i is in
-    let early = has_all (λ (item : PlanItem). item.arrival ≤ 8000000) plan legal.early i is in
+    let early = has_all (λ (item : PlanItem). item.arrival ≤ most_arrival) plan legal.early i is in
     let period = period_of_task tasks i.job.task set good.from_one good.in_set in
     omega arith
 
--- a legal plan's deadlines are all within 9,000,000 ticks
-pub horizon_short : (tasks : List Task) (plan : List PlanItem) → IsTaskSet tasks → IsLegalPlan tasks plan → horizon tasks plan ≤ 9000000
-horizon_short tasks plan set legal = horizon_most tasks 9000000 plan (λ i is. deadline_most tasks plan i set legal is)
+-- a legal plan's deadlines are all by the last that there may be
+pub horizon_short : (tasks : List Task) (plan : List PlanItem) → IsTaskSet tasks → IsLegalPlan tasks plan → horizon tasks plan ≤ most_deadline
+horizon_short tasks plan set legal = horizon_most tasks most_deadline plan (λ i is. deadline_most tasks plan i set legal is)
 
 -- a log that the rule makes has as many ticks as are asked for
 pub made_long : (tasks : List Task) (plan : List PlanItem) (upto : ℕ) (log : Ticks) → log ≡ edf_ddm tasks plan upto → length log ≡ upto
@@ -129,19 +130,6 @@ kept_due named tasks plan log upto labels given text legal same end made kept na
       };
     }
 
--- two logs of the rule go the same way
-go_alike : (tasks : List Task) (plan : List PlanItem) (a b : Ticks) → IsEdfDdm tasks plan a → IsEdfDdm tasks plan b → (n : ℕ) → n ≤ length a → n ≤ length b → Agree a b n
-go_alike tasks plan a b first second zero x y t lt = absurd (omega arith)
-go_alike tasks plan a b first second (suc n) x y t lt =
-    let before = go_alike tasks plan a b first second n (omega arith) (omega arith) in
-    ⊎_elim
-    (λ (l : t < n). before t l)
-    (λ (l : n ≤ t).
-    let e : n ≡ t = omega arith in
-    let P : ℕ → Type 0 = λ u. tick a u ≡ tick b u in
-    subst P e (first n (omega arith) ∙ choice_same tasks plan a b n before ∙ sym (second n (omega arith))))
-    (cases_lt t n)
-
 due_by_end : (tasks : List Task) (plan : List PlanItem) (item : PlanItem) → Has plan item → deadline_of tasks item ≤ horizon tasks plan
 due_by_end tasks [] item has = absurd has
 due_by_end tasks (x ∷ xs) item has =
@@ -162,7 +150,7 @@ plays_miss tasks plan h must =
     let due = deadline_of tasks item in
     let within = due_by_end tasks plan item miss.1 in
     let made = rule_makes_logs tasks plan end in
-    let alike = go_alike tasks plan log (played tasks plan) long.rule made.rule due (omega (arith, long.long)) (omega (arith, made.long)) in
+    let alike = same_so_far tasks plan log (played tasks plan) long.rule made.rule due (omega (arith, long.long)) (omega (arith, made.long)) in
     let same = done_same log (played tasks plan) item.job due alike in
     (item, miss.1, record { due = within; short = omega (arith, miss.2.short) })
 

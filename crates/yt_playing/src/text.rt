@@ -1,12 +1,12 @@
 //! What is printed of a play.
-ghost use Rattle.std.specs.Prelude.{◌≡◌, ◌≤◌, [], ◌++◌, length, IfOk, OnOk};
-ghost use Rattle.yt_list.specs.Numbered.{numbered_or};
+ghost use Rattle.std.specs.Prelude.{◌≡◌, ◌≤◌, ◌++◌, length, IfOk, OnOk};
 ghost use Rattle.yt_log.specs.Segments.{segments_below, segments_of};
 ghost use Rattle.yt_playing.specs.Inside.Cut.{line_below};
 ghost use Rattle.yt_playing.specs.Texts.{end_of, kept_text, miss_line, missed_text, play_lines};
 
 use std::alloc::{AllocError, Global};
 use yt_base::Text;
+use yt_fitting::task_label;
 use yt_list::Name;
 use yt_log::{Log, Miss, Segment, put_end, put_segment};
 
@@ -64,7 +64,7 @@ fn put_below(
         to: segment.to.min(stop),
         ..*segment
     };
-    put_segment(text, name_of(labels, segment.job.task), &cut)
+    put_segment(text, task_label(labels, segment.job.task), &cut)
 }
 
 /// Adds the line of a job that misses its deadline.
@@ -72,23 +72,10 @@ fn put_miss(text: &mut Text, labels: &[Name], miss: Miss) -> Result<(), AllocErr
     ensures { OnOk result (text.new ≡ text.old ++ miss_line labels.now miss.job miss.due) }
 {
     text.put(b"miss ")?;
-    text.put(name_of(labels, miss.job.task))?;
+    text.put(task_label(labels, miss.job.task))?;
     text.put_field(u64::from(miss.job.number))?;
     text.put_field(miss.due)?;
     text.put(b"\n")
-}
-
-/// The name of a number, from 1; empty where there is none.
-fn name_of(labels: &[Name], number: u32) -> &[u8]
-    ensures { result.now ≡ numbered_or labels.now number [] }
-{
-    if number == 0 {
-        return b"";
-    }
-    match labels.get(number as usize - 1) {
-        Some(label) => label.as_slice(),
-        None => b"",
-    }
 }
 
 /// Where the last segment ends, 0 where there is none.

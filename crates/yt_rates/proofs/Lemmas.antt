@@ -1,2 +1,2 @@
 -- The lemmas that proofs of other crates cite.
-pub use Rattle.yt_rates.proofs.Chains.{source}
+pub use Rattle.yt_rates.proofs.Chains.{of_some, source}

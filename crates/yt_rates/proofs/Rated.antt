@@ -22,7 +22,8 @@ use Rattle.yt_rates.specs.declared.fault.RateFault.{RateFault}
 use Rattle.yt_rates.specs.declared.fault.RateFault.TheVariants.{Over, Zero, Span, Memory}
 use Rattle.yt_rates.specs.Rates.{passed_on, stream_within, stream_of, distance_of, period_of, start_of}
 use Rattle.yt_rates.specs.Faults.{ArePassedWithin, IsWithinRates, IsFaultOf, outs_fault, stream_fault, port_fault, fault_at, fault_from}
-use Rattle.yt_rates.specs.Tables.{PortRates, ArePassedOn, AreRatesOf, IsKeptWithin, IsRated, AreRated, IsKnown}
+use Rattle.yt_rates.specs.Tables.{PortRates, ArePassedOn, AreRatesOf, IsKeptWithin}
+use Rattle.yt_rates.specs.Inside.Rating.{AreRated, IsKnown, IsRated}
 use Rattle.yt_rates.proofs.Chains.{of_some, source, near}
 use Rattle.yt_rates.proofs.Lists.{item_at, all_at, written_here, written_there}
 

@@ -7,7 +7,8 @@ ghost use Rattle.yt_graph.specs.WellFormed.{IsWellFormed};
 ghost use Rattle.yt_cost.specs.Codes.{AreCodesOf};
 ghost use Rattle.yt_rates.specs.Rates.{distance_of, stream_within};
 ghost use Rattle.yt_rates.specs.Faults.{IsWithinRates, port_fault, fault_at, rate_fault, IsFaultOf};
-ghost use Rattle.yt_rates.specs.Tables.{IsRatesOf, AreRatesOf, AreRated, IsRated, IsKnown};
+ghost use Rattle.yt_rates.specs.Tables.{AreRatesOf};
+ghost use Rattle.yt_rates.specs.Inside.Rating.{AreRated, IsKnown, IsRated};
 
 use crate::distances::distances;
 use crate::fault::RateFault;
@@ -18,9 +19,7 @@ use arrayvec::ArrayVec;
 use std::alloc::{AllocError, Global};
 use yt_cost::Codes;
 use yt_graph::{Feed, Graph};
-
-/// The longest period, in ticks.
-const MOST_PERIOD: u64 = 1_000_000;
+use yt_set::MOST_TICKS;
 
 /// Rates each port. The caller shows that the graph is well formed and that the codes are the graph's.
 ///
@@ -99,7 +98,7 @@ fn rate_port(graph: &Graph, codes: &Codes, table: &[Kept], place: usize) -> Resu
     let port = graph.ports.at(place);
     let number = place as u32 + 1;
     let stream = stream_to(graph, table, port.feed);
-    if stream.period > MOST_PERIOD {
+    if stream.period > MOST_TICKS {
         return Err(RateFault::Over {
             port: number,
             period: stream.period,

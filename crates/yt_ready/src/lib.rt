@@ -10,6 +10,3 @@ mod ready;
 
 pub use entry::Entry;
 pub use ready::Ready;
-
-#[cfg(test)]
-mod tests;

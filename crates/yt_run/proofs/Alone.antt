@@ -5,7 +5,7 @@ use Rattle.yt_log.specs.declared.plan.PlanItem.{PlanItem}
 use Rattle.yt_log.specs.Plan.{its_task, deadline_of, jobs_of, IsLegalAfter, IsLegal}
 use Rattle.yt_log.specs.Tasks.{Has, task_of}
 use Rattle.yt_log.specs.Ticks.{Ticks, Misses}
-use Rattle.yt_run.specs.Alone.{one_task, TimesAreApartFrom, TimesAreApart, RunsAlone, items_from, alone_from}
+use Rattle.yt_run.specs.Inside.Alone.{one_task, TimesAreApartFrom, TimesAreApart, RunsAlone, items_from, alone_from}
 use Rattle.yt_serial.specs.Beginnings.{nth_job, begun_below, order_of}
 use Rattle.yt_run.proofs.AloneTicks.{RunFrom, one_from, alone_runs_from, alone_at_once}
 use Rattle.yt_run.proofs.AtOnce.{RunsAtOnce, done_at_once, done_in_time, ends_within, at_once_lawful, at_once_work_conserving, at_once_exclusive, at_once_edf_ddm, at_once_finished, at_once_first_tick}

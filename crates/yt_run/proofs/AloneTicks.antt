@@ -7,7 +7,7 @@ use Rattle.yt_log.specs.declared.plan.PlanItem.{PlanItem}
 use Rattle.yt_log.specs.Tasks.{Has}
 use Rattle.yt_log.specs.Ticks.{Ticks, tick}
 use Rattle.yt_serial.specs.Beginnings.{nth_job}
-use Rattle.yt_run.specs.Alone.{TimesAreApartFrom, TimesAreApart, items_from, alone_from}
+use Rattle.yt_run.specs.Inside.Alone.{TimesAreApartFrom, TimesAreApart, items_from, alone_from}
 use Rattle.yt_run.proofs.AtOnce.{IsInRun, RunsAtOnce}
 
 -- two jobs of two ticks that arrive at 1 and at 4

@@ -14,8 +14,8 @@ use Rattle.yt_log.specs.Tasks.{Has}
 use Rattle.yt_log.specs.Ticks.{Ticks, IsLawful}
 use Rattle.yt_log.proofs.Lemmas.{ticks_of-segments_of}
 use Rattle.yt_serial.specs.declared.shown.OutLine.{OutLine}
-use Rattle.yt_serial.specs.declared.trace.Message.{Message}
-use Rattle.yt_run.specs.Alone.{alone_from, items_from}
+use Rattle.yt_trace.specs.declared.message.Message.{Message}
+use Rattle.yt_run.specs.Inside.Alone.{alone_from, items_from}
 use Rattle.yt_serial.specs.Beginnings.{nth_job}
 use Rattle.yt_run.specs.First.{the_port, the_period, IsFirstGraph, FitsFirst, KeepsPeriod, line_with}
 use Rattle.yt_run.specs.Readable.{HasReadableNames}

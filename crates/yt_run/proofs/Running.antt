@@ -16,11 +16,11 @@ use Rattle.yt_log.specs.Ticks.{Ticks, done, IsLawful, IsWorkConserving, IsExclus
 use Rattle.yt_log.proofs.Lemmas.{jobs_none}
 use Rattle.yt_rates.specs.Tables.{tasks_of}
 use Rattle.yt_serial.specs.declared.shown.OutLine.{OutLine}
-use Rattle.yt_serial.specs.declared.trace.Message.{Message}
-use Rattle.yt_run.specs.Alone.{TimesAreApart, TimesAreApartFrom, alone_from, items_from, one_task, RunsAlone}
+use Rattle.yt_trace.specs.declared.message.Message.{Message}
+use Rattle.yt_run.specs.Inside.Alone.{TimesAreApart, TimesAreApartFrom, alone_from, items_from, one_task, RunsAlone}
 use Rattle.yt_serial.specs.Beginnings.{nth_job, order_of}
 use Rattle.yt_run.specs.First.{First, the_port, the_period, IsFirstGraph, IsSent, FitsFirst, KeepsPeriod, AreFirstMessages, AreSpaced, graph_of, port_of, leaf, sum_after, line_with}
-use Rattle.yt_serial.specs.PortMessages.{PortMessage}
+use Rattle.yt_trace.specs.Traces.{PortMessage}
 use Rattle.yt_serial.specs.SerialHandling.{Handled, Serial, messages_at, handled_of, start, serial_run, plan_of, handled_along, plan_of_log}
 use Rattle.yt_serial.specs.Told.{line_before, latest, AllHandled, BeginsInOrder, NoneReplaced, IsPromisedRun}
 use Rattle.yt_run.proofs.Alone.{jobs_of-one, alone_holds}

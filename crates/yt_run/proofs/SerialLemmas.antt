@@ -12,11 +12,12 @@ use Rattle.yt_log.specs.declared.plan.PlanItem.{PlanItem}
 use Rattle.yt_log.specs.Plan.{jobs_of}
 use Rattle.yt_log.proofs.Lemmas.{jobs_push_same}
 use Rattle.yt_serial.specs.declared.shown.OutLine.{OutLine}
-use Rattle.yt_serial.specs.declared.trace.Message.{Message}
+use Rattle.yt_trace.specs.declared.message.Message.{Message}
 use Rattle.yt_serial.specs.Beginnings.{nth_job}
-use Rattle.yt_run.specs.Alone.{items_from}
+use Rattle.yt_run.specs.Inside.Alone.{items_from}
 use Rattle.yt_run.specs.First.{First, port_of, graph_of, leaf, sum_after, AreFirstMessages}
-use Rattle.yt_serial.specs.PortMessages.{PortMessage, messages_of, passed}
+use Rattle.yt_serial.specs.PortMessages.{passed}
+use Rattle.yt_trace.specs.Traces.{PortMessage, messages_of}
 use Rattle.yt_serial.specs.SerialHandling.{Handled, Serial, message_of, all_shown, handle_message, serial_step, serial_run}
 
 -- the value that a message makes the handler send

@@ -4,8 +4,8 @@ use Rattle.std.proofs.lemmas.Bool.{cond-false}
 use Rattle.std.proofs.lemmas.Bool.Decides.{nat_tests}
 use Rattle.yt_order.specs.Sorting.{insert_by, sort_by}
 use Rattle.yt_log.specs.Patterns.{item_before}
-use Rattle.yt_serial.specs.declared.trace.Message.{Message}
-use Rattle.yt_run.specs.Alone.{TimesAreApartFrom, TimesAreApart, items_from}
+use Rattle.yt_trace.specs.declared.message.Message.{Message}
+use Rattle.yt_run.specs.Inside.Alone.{TimesAreApartFrom, TimesAreApart, items_from}
 use Rattle.yt_run.specs.First.{First}
 use Rattle.yt_serial.specs.Told.{line_before}
 use Rattle.yt_run.proofs.SerialLemmas.{lines_of, times_of}

@@ -17,10 +17,10 @@ use Rattle.yt_log.specs.Tasks.{task_of}
 use Rattle.yt_log.specs.Ticks.{Ticks, tick, names, done, first_tick}
 use Rattle.yt_rates.specs.Tables.{tasks_of}
 use Rattle.yt_serial.specs.declared.shown.OutLine.{OutLine}
-use Rattle.yt_serial.specs.declared.trace.Message.{Message}
+use Rattle.yt_trace.specs.declared.message.Message.{Message}
 use Rattle.yt_serial.specs.Beginnings.{newcomer, begun_below, order_of, busy_until}
 use Rattle.yt_run.specs.First.{the_message, the_number, the_port, graph_of}
-use Rattle.yt_serial.specs.PortMessages.{PortMessage}
+use Rattle.yt_trace.specs.Traces.{PortMessage}
 use Rattle.yt_list.specs.Numbered.{numbered}
 use Rattle.yt_run.specs.RunText.{run_text, read_back}
 use Rattle.yt_serial.specs.SerialHandling.{Handled, Serial, handled_of, handled_along, plan_of_log}

@@ -7,9 +7,9 @@ use Rattle.yt_graph.specs.Meaning.{expr_value}
 use Rattle.yt_graph.specs.Picture.{ExprTree, num, local, two, no_exprs, more_exprs, send, empty, more, GraphTree, PortTree}
 use Rattle.yt_rates.specs.Rates.{period_of}
 use Rattle.yt_set.specs.Limits.{most_ticks}
-use Rattle.yt_serial.specs.Limits.{most_time, most_trace}
+use Rattle.yt_trace.specs.Limits.{most_time, most_trace}
 use Rattle.yt_serial.specs.declared.shown.OutLine.{OutLine}
-use Rattle.yt_serial.specs.declared.trace.Message.{Message}
+use Rattle.yt_trace.specs.declared.message.Message.{Message}
 use Rattle.yt_graph.specs.Labels.{no_port}
 
 -- what a sum adds: the message's number, or a number that is written

@@ -3,7 +3,7 @@ use Rattle.std.specs.Prelude.{◌≡◌, ℕ, List}
 use Rattle.yt_graph.specs.Picture.{GraphTree}
 use Rattle.yt_log.specs.Ticks.{Ticks}
 use Rattle.yt_serial.specs.declared.shown.OutLine.{OutLine}
-use Rattle.yt_serial.specs.declared.trace.Message.{Message}
+use Rattle.yt_trace.specs.declared.message.Message.{Message}
 use Rattle.yt_serial.specs.RunRules.{MeetsRunRules}
 use Rattle.yt_serial.specs.Premises.{IsSchedulable}
 use Rattle.yt_serial.specs.Told.{IsPromisedRun}

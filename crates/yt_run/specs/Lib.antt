@@ -1,5 +1,5 @@
-pub mod Alone
 pub mod First
 pub mod Laws
 pub mod Readable
 pub mod RunText
+pub mod Inside

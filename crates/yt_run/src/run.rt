@@ -13,7 +13,8 @@ use std::alloc::{AllocError, Global};
 use yt_graph::{Expr, Graph};
 use yt_list::Vals;
 use yt_log::{Job, Log};
-use yt_serial::{Message, OutLine, Outs, Trace};
+use yt_serial::{OutLine, Outs};
+use yt_trace::{Message, Trace};
 
 /// Runs a graph of one input, one port and one output on a trace that keeps the input's period. Each message is handled
 /// from its time on, and what it makes the handler send is shown a period later. `Err` comes where memory ran out.
@@ -33,7 +34,7 @@ pub fn run_first(alloc: Global, graph: &Graph, trace: &Trace) -> Result<Told, Al
     let mut log = Log::new(alloc);
     let mut outs = Outs::new(alloc);
     let mut end = 0;
-    for (i, message) in trace.as_slice().iter().enumerate() {
+    for (i, message) in trace.messages().iter().enumerate() {
         log.tell_idle(message.time);
         let job = Job {
             task: 1,

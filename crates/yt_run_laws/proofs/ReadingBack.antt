@@ -22,7 +22,7 @@ use Rattle.yt_run_laws.proofs.ReadableNames.{names_are_readable}
 use Rattle.yt_run_laws.proofs.SerialValues.{line_values}
 use Rattle.yt_schedule_laws.proofs.Lemmas.{all_has, line_by, line_within, of_port, runs_end}
 use Rattle.yt_serial.specs.declared.shown.OutLine.{OutLine}
-use Rattle.yt_serial.specs.declared.trace.Message.{Message}
+use Rattle.yt_trace.specs.declared.message.Message.{Message}
 use Rattle.yt_serial.specs.Beginnings.{order_of}
 use Rattle.yt_serial.specs.PortMessages.{PortMessage}
 use Rattle.yt_serial.specs.Premises.{IsHandling}

@@ -22,7 +22,7 @@ use Rattle.yt_run_laws.specs.KeepingValues.{LeavesValues, SerialHandlingKeepsVal
 use Rattle.yt_run_laws.proofs.HandlerValues.{handlers_keep_values}
 use Rattle.yt_schedule_laws.proofs.Lemmas.{all_has, all_shown_from, all_there, brought_from, has_numbered, message_at, passed_from}
 use Rattle.yt_serial.specs.declared.shown.OutLine.{OutLine}
-use Rattle.yt_serial.specs.declared.trace.Message.{Message}
+use Rattle.yt_trace.specs.declared.message.Message.{Message}
 use Rattle.yt_order.specs.Gaps.{at_gaps}
 use Rattle.yt_serial.specs.PortMessages.{PortMessage, arriving, messages_of, passed}
 use Rattle.yt_serial.specs.Premises.{IsHandling}

@@ -5,7 +5,7 @@ use Rattle.yt_graph.specs.Meaning.{Handling, handling}
 use Rattle.yt_graph.specs.Picture.{GraphTree, PortTree}
 use Rattle.yt_log.specs.declared.job.Job.{Job}
 use Rattle.yt_run_laws.specs.Values.{AreValues, BlockWritesValues, CanRunOnValues}
-use Rattle.yt_serial.specs.declared.trace.Message.{Message}
+use Rattle.yt_trace.specs.declared.message.Message.{Message}
 use Rattle.yt_serial.specs.Premises.{IsHandling}
 use Rattle.yt_serial.specs.SerialHandling.{Serial}
 

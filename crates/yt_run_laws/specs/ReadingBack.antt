@@ -6,7 +6,7 @@ use Rattle.yt_run.specs.Laws.{IsFaithful}
 use Rattle.yt_run.specs.RunText.{read_back, run_text}
 use Rattle.yt_run_laws.specs.Values.{CanRunOnValues}
 use Rattle.yt_serial.specs.declared.shown.OutLine.{OutLine}
-use Rattle.yt_serial.specs.declared.trace.Message.{Message}
+use Rattle.yt_trace.specs.declared.message.Message.{Message}
 use Rattle.yt_serial.specs.Told.{IsPromisedRun}
 
 -- the text of each promised run is read back as its log and lines, and is faithful

@@ -13,7 +13,7 @@ use yt_graph::{
 use yt_list::{Name, Names, Vals};
 use yt_log::{Job, Segment};
 use yt_run::{Told, first_cost, first_period, run_first};
-use yt_serial::{Message, Trace};
+use yt_trace::{Message, Trace};
 
 fn name(alloc: Global, text: &[u8]) -> Result<Name, AllocError> {
     Ok(Name::from_vec(Vec::from_slice(alloc, text)?))
@@ -108,8 +108,10 @@ fn a_sum_is_shown_a_period_later(rt: HostRuntime) -> Result<(), Fail> {
     let graph = adding(alloc, 1)?;
     assert_eq!(rt; first_cost(&graph), 5);
     assert_eq!(rt; first_period(&graph), 10);
-    let messages = vec![in alloc; message(alloc, 0, 7)?, message(alloc, 10, 8)?]?;
-    let told = run_first(alloc, &graph, &Trace::from_vec(messages))?;
+    let mut trace = Trace::new(alloc);
+    trace.push(message(alloc, 0, 7)?)?;
+    trace.push(message(alloc, 10, 8)?)?;
+    let told = run_first(alloc, &graph, &trace)?;
     assert_eq!(rt; told.log.until(), 20);
     assert_eq!(rt;
         told.log.segments(),
@@ -129,8 +131,9 @@ fn a_sum_is_shown_a_period_later(rt: HostRuntime) -> Result<(), Fail> {
 fn a_message_makes_one_line(rt: HostRuntime) -> Result<(), Fail> {
     let alloc = rt.alloc();
     for (number, value) in [(1, 8), (9223372036854775807, -9223372036854775802)] {
-        let messages = vec![in alloc; message(alloc, 0, 7)?]?;
-        let told = run_first(alloc, &adding(alloc, number)?, &Trace::from_vec(messages))?;
+        let mut trace = Trace::new(alloc);
+        trace.push(message(alloc, 0, 7)?)?;
+        let told = run_first(alloc, &adding(alloc, number)?, &trace)?;
         assert_eq!(rt; told.log.until(), 10);
         assert_eq!(rt; told.log.segments(), [segment(0, 5, 1)].as_slice());
         assert_eq!(rt; value_shown(&told), Some(value));

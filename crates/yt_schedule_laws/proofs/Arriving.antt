@@ -22,13 +22,13 @@ use Rattle.yt_log.proofs.Lemmas.{has_all, has_append}
 use Rattle.yt_rates.specs.Rates.{every_of, period_of, start_of, gap_of, reach_of}
 use Rattle.yt_rates.proofs.Lemmas.{source}
 use Rattle.yt_serial.specs.declared.shown.OutLine.{OutLine}
-use Rattle.yt_serial.specs.declared.trace.Message.{Message}
-use Rattle.yt_serial.specs.Limits.{most_time}
+use Rattle.yt_trace.specs.declared.message.Message.{Message}
+use Rattle.yt_trace.specs.Limits.{most_time}
 use Rattle.yt_order.specs.Gaps.{at_gaps}
 use Rattle.yt_serial.specs.PortMessages.{PortMessage, arriving, messages_of, spaced, passed}
 use Rattle.yt_serial.specs.Premises.{CanRun}
 use Rattle.yt_serial.specs.SerialHandling.{Serial, messages_at, handled_of, from_outside, start, brought, shown, all_shown, port_of, handle_message, message_of, serial_step, serial_run}
-use Rattle.yt_serial.specs.Traces.{IsMessageOf}
+use Rattle.yt_trace.specs.Traces.{IsMessageOf}
 use Rattle.yt_serial.proofs.Lemmas.{feed_cases, messages_on-length, placed-length, placed_at, port_there, stepped}
 
 -- a message leaves its gap before the end of the gaps of all that were sent
@@ -244,7 +244,7 @@ module _ (g : GraphTree) (trace : List Message) (can : CanRun g trace) where
   outside f x h =
       ⊎_elim
       (λ (i : (input : ℕ) × (f ≡ Input input)).
-      outside_by i.0 trace (λ y is. (has_all (IsMessageOf g) trace can.keeps.messages y is).in_time) x (subst (λ (f : Feed). Has (from_outside trace f) x) i.1 h))
+      outside_by i.0 trace (λ y is. (has_all (IsMessageOf g.inputs) trace can.keeps.messages y is).in_time) x (subst (λ (f : Feed). Has (from_outside trace f) x) i.1 h))
       (λ (o : (from out : ℕ) × (f ≡ Out from out)). absurd (subst (λ (f : Feed). Has (from_outside trace f) x) o.2 h))
       (feed_cases f)
 

@@ -17,8 +17,8 @@ use Rattle.yt_rates.specs.Faults.{IsWithinRates}
 use Rattle.yt_rates.specs.Limits.{most_reach}
 use Rattle.yt_rates.specs.Rates.{start_of, reach_of}
 use Rattle.yt_serial.specs.declared.shown.OutLine.{OutLine}
-use Rattle.yt_serial.specs.declared.trace.Message.{Message}
-use Rattle.yt_serial.specs.Limits.{most_time}
+use Rattle.yt_trace.specs.declared.message.Message.{Message}
+use Rattle.yt_trace.specs.Limits.{most_time}
 use Rattle.yt_serial.specs.PortMessages.{PortMessage}
 use Rattle.yt_serial.specs.Premises.{IsHandling}
 use Rattle.yt_serial.specs.SerialHandling.{Serial, messages_at, items_of, plan_of}
@@ -52,7 +52,7 @@ module _ (g : GraphTree) (trace : List Message) (order : List Job) (s : Serial) 
   rated zero p there = absurd (none-some p there)
   rated (suc k) p there = all_there (IsWithinRates g) g.ports k p is.can.rates there
 
-  by_start : (port : ℕ) (p : PortTree) → numbered g.ports port ≡ Some p → (m : PortMessage) → Has (messages_at s port) m → m.time ≤ most_time + start_of g p
+  pub by_start : (port : ℕ) (p : PortTree) → numbered g.ports port ≡ Some p → (m : PortMessage) → Has (messages_at s port) m → m.time ≤ most_time + start_of g p
   by_start = (in_time g trace is.can order s is.along).messages
 
   -- the out of an output is an out of its port

@@ -14,7 +14,7 @@ use Rattle.yt_log.specs.Ticks.{Ticks, tick, IsLawful, KeepsDeadlines}
 use Rattle.yt_log.proofs.Lemmas.{below_end, deadline_is, done_grows, good_item, has_all, has_sorted, has_task}
 use Rattle.yt_rates.specs.Tables.{tasks_of}
 use Rattle.yt_serial.specs.declared.shown.OutLine.{OutLine}
-use Rattle.yt_serial.specs.declared.trace.Message.{Message}
+use Rattle.yt_trace.specs.declared.message.Message.{Message}
 use Rattle.yt_serial.specs.Beginnings.{busy_until, order_of}
 use Rattle.yt_serial.specs.Premises.{IsHandling}
 use Rattle.yt_serial.specs.SerialHandling.{Serial, plan_of, plan_of_log}

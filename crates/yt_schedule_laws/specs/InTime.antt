@@ -12,9 +12,9 @@ use Rattle.yt_rates.specs.Limits.{most_reach}
 use Rattle.yt_rates.specs.Rates.{start_of, reach_of}
 use Rattle.yt_rates.specs.Tables.{tasks_of}
 use Rattle.yt_serial.specs.declared.shown.OutLine.{OutLine}
-use Rattle.yt_serial.specs.declared.trace.Message.{Message}
+use Rattle.yt_trace.specs.declared.message.Message.{Message}
 use Rattle.yt_serial.specs.Beginnings.{busy_until}
-use Rattle.yt_serial.specs.Limits.{most_time}
+use Rattle.yt_trace.specs.Limits.{most_time}
 use Rattle.yt_serial.specs.Premises.{CanRun, IsHandling}
 use Rattle.yt_serial.specs.SerialHandling.{Serial, messages_at, plan_of}
 use Rattle.yt_serial.specs.Told.{IsPromisedRun}

@@ -21,8 +21,9 @@ use Rattle.yt_log.specs.declared.job.Job.{Job}
 use Rattle.yt_log.specs.Plan.{jobs_of}
 use Rattle.yt_log.proofs.Lemmas.{jobs_none, jobs_push_same, jobs_push_other}
 use Rattle.yt_rates.specs.Rates.{every_of, period_of, gap_of}
-use Rattle.yt_serial.specs.declared.trace.Message.{Message}
-use Rattle.yt_serial.specs.PortMessages.{PortMessage, messages_of, passed}
+use Rattle.yt_trace.specs.declared.message.Message.{Message}
+use Rattle.yt_serial.specs.PortMessages.{passed}
+use Rattle.yt_trace.specs.Traces.{PortMessage, messages_of}
 use Rattle.yt_serial.proofs.Sends.{spaced-length}
 use Rattle.yt_list.proofs.Lemmas.{numbered_there}
 use Rattle.yt_list.specs.Numbered.{numbered}
@@ -37,7 +38,7 @@ use Rattle.yt_serial.specs.Premises.{CanRun}
 use Rattle.yt_serial.specs.Lines.{lines_of}
 use Rattle.yt_serial.proofs.Spread.{numbered_within}
 
-div_le : (a b e : ℕ) → 1 ≤ e → a ≤ b → a / e ≤ b / e
+pub div_le : (a b e : ℕ) → 1 ≤ e → a ≤ b → a / e ≤ b / e
 div_le a b e some le =
     let p = mod-add-div a e in
     let q = mod-add-div b e in
@@ -61,7 +62,7 @@ div_rises h e some multiple =
     (cases_lt (h / e) (suc h / e))
 
 -- the `every` of an out is positive
-every_some : (g : GraphTree) → IsWellFormed g → (port out : ℕ) (q : PortTree) → numbered g.ports port ≡ Some q → 1 ≤ every_of q out
+pub every_some : (g : GraphTree) → IsWellFormed g → (port out : ℕ) (q : PortTree) → numbered g.ports port ≡ Some q → 1 ≤ every_of q out
 every_some g well zero out q there = absurd (none-some q there)
 every_some g well (suc k) out q there =
     let e : get_or g.ports k q ≡ q = get_or_from_slice_get g.ports k q q there in
@@ -249,9 +250,8 @@ module _ (g : GraphTree) (trace : List Message) (can : CanRun g trace) where
     by_source n k p from out there fed a is None e ends source = absurd ends
     by_source n k p from out there fed a is (Some q) e ends source =
         let at_q : numbered g.ports from ≡ Some q = ap (numbered g.ports) is ∙ e in
-        let place : from - 1 ≡ a = omega arith in
         let here : most_messages_within g trace (suc n) (Out from out) ≡ greatest_passed q out (most_messages_within g trace n q.feed) =
-        ap (λ (o : Option PortTree). unwrap_or (option_map (λ (p : PortTree). greatest_passed p out (most_messages_within g trace n p.feed)) o) 0) (ap (slice_get g.ports) place ∙ e) in
+        ap (λ (o : Option PortTree). unwrap_or (option_map (λ (p : PortTree). greatest_passed p out (most_messages_within g trace n p.feed)) o) 0) at_q in
         let most = source q at_q ends in
         let count = handled_le from in
         let mine = bounded.ports k p from out q there fed at_q in

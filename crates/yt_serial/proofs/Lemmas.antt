@@ -1,6 +1,7 @@
 -- The lemmas that proofs of other crates cite.
+pub use Rattle.yt_serial.proofs.Bounds.{every_some, messages_are_bounded}
 pub use Rattle.yt_serial.proofs.Done.{begun_again, begun_fresh, begun_idle, begun_stays, busy_until_le, busy_until_within, done_within, first_tick_at, length_is_end}
-pub use Rattle.yt_serial.proofs.LineOrder.{TimesRise, from_not, lines_has, sorted_is}
+pub use Rattle.yt_serial.proofs.LineOrder.{TimesRise, from_not, lines_has, lines_other, lines_same, sorted_is}
 pub use Rattle.yt_serial.proofs.LogWrites.{done_before, done_other, done_this, length_push, tick_cases, tick_last, variables_stay, writes_below_more, writes_below_prefix, writes_below_push, writes_below_same, writes_below_zero, writes_idle, writes_in_idle, writes_in_job, writes_of_push_other, writes_of_push_same}
 pub use Rattle.yt_serial.proofs.Orders.{goes_on}
 pub use Rattle.yt_serial.proofs.Prefix.{begun_below-append, begun_same}

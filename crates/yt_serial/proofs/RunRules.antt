@@ -18,7 +18,7 @@ use Rattle.yt_log.proofs.Lemmas.{done_grows, first_is, first_stays}
 use Rattle.yt_rates.specs.Rates.{period_of}
 use Rattle.yt_rates.specs.Tables.{tasks_of}
 use Rattle.yt_serial.specs.declared.shown.OutLine.{OutLine}
-use Rattle.yt_serial.specs.declared.trace.Message.{Message}
+use Rattle.yt_trace.specs.declared.message.Message.{Message}
 use Rattle.yt_serial.specs.Beginnings.{begun_below, order_of}
 use Rattle.yt_serial.specs.RunRules.{MeetsRunRules, RunRulesAreExact}
 use Rattle.yt_serial.specs.Premises.{IsSchedulable}

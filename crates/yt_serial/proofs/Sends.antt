@@ -6,7 +6,8 @@ use Rattle.yt_graph.specs.declared.handled.SendItem.{SendItem}
 use Rattle.yt_graph.specs.Cost.{one_if_same, sent_on}
 use Rattle.yt_graph.specs.Sends.{messages_on}
 use Rattle.yt_order.specs.Gaps.{at_gaps}
-use Rattle.yt_serial.specs.PortMessages.{PortMessage, arriving, spaced}
+use Rattle.yt_serial.specs.PortMessages.{arriving, spaced}
+use Rattle.yt_trace.specs.Traces.{PortMessage}
 use Rattle.yt_serial.proofs.Spread.{IsSpread, spread_none, spread_first}
 
 -- a message comes no earlier than the first may, and leaves its gap before the last's gap ends

@@ -13,10 +13,10 @@ use Rattle.yt_log.specs.declared.plan.PlanItem.{PlanItem}
 use Rattle.yt_log.specs.Plan.{same_job, jobs_of}
 use Rattle.yt_log.specs.Ticks.{Ticks, tick, names, done}
 use Rattle.yt_serial.specs.declared.shown.OutLine.{OutLine}
-use Rattle.yt_serial.specs.declared.trace.Message.{Message}
+use Rattle.yt_trace.specs.declared.message.Message.{Message}
 use Rattle.yt_serial.specs.Bounds.{greatest_passed, most_messages}
 use Rattle.yt_serial.specs.Beginnings.{newcomer, begun_below, order_of}
-use Rattle.yt_serial.specs.PortMessages.{PortMessage}
+use Rattle.yt_trace.specs.Traces.{PortMessage}
 use Rattle.yt_serial.specs.Variables.{variables_at, writes_below, writes_in, writes_of}
 use Rattle.yt_serial.specs.SerialHandling.{Serial, start, serial_run, handled_along, plan_of_log}
 

@@ -24,7 +24,8 @@ use Rattle.yt_rates.specs.Faults.{IsWithinRates}
 use Rattle.yt_rates.specs.Rates.{every_of, period_of, gap_of}
 use Rattle.yt_rates.specs.Tables.{task_of, tasks_of}
 use Rattle.yt_rates.proofs.Lemmas.{source}
-use Rattle.yt_serial.specs.PortMessages.{PortMessage, spaced, passed}
+use Rattle.yt_serial.specs.PortMessages.{spaced, passed}
+use Rattle.yt_trace.specs.Traces.{PortMessage}
 use Rattle.yt_list.specs.Numbered.{numbered}
 use Rattle.yt_serial.specs.SerialHandling.{Handled, Serial, messages_at, items_of, handled_of, brought, placed, all_shown}
 use Rattle.yt_serial.proofs.Orderly.{AreOrderly, none, orderly_push}

@@ -15,13 +15,13 @@ use Rattle.yt_log.proofs.Lemmas.{has_append}
 use Rattle.yt_rates.specs.Faults.{IsWithinRates}
 use Rattle.yt_rates.specs.Rates.{period_of, gap_of}
 use Rattle.yt_serial.specs.declared.shown.OutLine.{OutLine}
-use Rattle.yt_serial.specs.declared.trace.Message.{Message}
+use Rattle.yt_trace.specs.declared.message.Message.{Message}
 use Rattle.yt_order.specs.Gaps.{at_gaps}
-use Rattle.yt_serial.specs.PortMessages.{PortMessage, arriving, passed}
+use Rattle.yt_serial.specs.PortMessages.{arriving, passed}
 use Rattle.yt_list.specs.Numbered.{numbered}
 use Rattle.yt_serial.specs.SerialHandling.{Serial, messages_at, handled_of, start, brought, shown, all_shown, port_of, serial_step, serial_run}
 use Rattle.yt_graph.specs.Labels.{no_port}
-use Rattle.yt_serial.specs.Traces.{KeepsPeriods}
+use Rattle.yt_trace.specs.Traces.{KeepsPeriods, PortMessage}
 use Rattle.yt_serial.proofs.Sends.{gaps_within}
 use Rattle.yt_serial.proofs.SerialInvariant.{ComesOf, Holds, after, handled_grows, handled_same, message_stays, new_within, old_ends}
 use Rattle.yt_serial.proofs.SerialStates.{port_there, BringsOf, brings, message_there}

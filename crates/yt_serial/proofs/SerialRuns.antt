@@ -12,13 +12,13 @@ use Rattle.yt_graph.specs.WellFormed.{IsWellFormed}
 use Rattle.yt_log.specs.declared.job.Job.{Job}
 use Rattle.yt_rates.specs.Faults.{IsWithinRates}
 use Rattle.yt_rates.specs.Rates.{period_of, input_period, stream_within}
-use Rattle.yt_serial.specs.declared.trace.Message.{Message}
+use Rattle.yt_trace.specs.declared.message.Message.{Message}
 use Rattle.yt_serial.specs.Premises.{CanRun}
-use Rattle.yt_serial.specs.PortMessages.{PortMessage, messages_of, passed}
+use Rattle.yt_serial.specs.PortMessages.{passed}
 use Rattle.yt_list.specs.Numbered.{numbered}
 use Rattle.yt_serial.specs.SerialHandling.{Serial, messages_at, brought, from_outside, port_of, handle_message, handled_of, message_of, serial_step, serial_run, start}
 use Rattle.yt_graph.specs.Labels.{no_port}
-use Rattle.yt_serial.specs.Traces.{KeepsPeriods}
+use Rattle.yt_trace.specs.Traces.{KeepsPeriods, PortMessage, messages_of}
 use Rattle.yt_serial.proofs.SerialInvariant.{Holds, after, holds_after}
 use Rattle.yt_serial.proofs.SerialStates.{placed_at, port_there, feed_cases, message_there}
 use Rattle.yt_serial.proofs.Spread.{IsSpread, spread_from, spread_none}

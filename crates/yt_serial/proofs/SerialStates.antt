@@ -10,7 +10,8 @@ use Rattle.yt_graph.specs.declared.port.Feed.TheVariants.{Input, Out}
 use Rattle.yt_graph.specs.Picture.{GraphTree, PortTree}
 use Rattle.yt_log.specs.declared.job.Job.{Job}
 use Rattle.yt_rates.specs.Rates.{every_of, period_of, gap_of}
-use Rattle.yt_serial.specs.PortMessages.{PortMessage, spaced, passed}
+use Rattle.yt_serial.specs.PortMessages.{spaced, passed}
+use Rattle.yt_trace.specs.Traces.{PortMessage}
 use Rattle.yt_list.specs.Numbered.{numbered}
 use Rattle.yt_serial.specs.SerialHandling.{Serial, messages_at, brought, placed, handled_of, message_of}
 use Rattle.yt_graph.specs.Labels.{no_port}

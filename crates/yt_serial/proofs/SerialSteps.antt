@@ -17,10 +17,11 @@ use Rattle.yt_log.specs.Ticks.{Ticks, done}
 use Rattle.yt_log.proofs.Lemmas.{has_push, jobs_push_same, jobs_push_other}
 use Rattle.yt_log.proofs.Lemmas.{has_last, has_left, has_sorted, sorted_has}
 use Rattle.yt_rates.specs.Rates.{period_of}
-use Rattle.yt_serial.specs.declared.trace.Message.{Message}
+use Rattle.yt_trace.specs.declared.message.Message.{Message}
 use Rattle.yt_serial.specs.Beginnings.{begun_below, nth_job, order_of}
 use Rattle.yt_serial.specs.Premises.{CanRun}
-use Rattle.yt_serial.specs.PortMessages.{PortMessage, passed}
+use Rattle.yt_serial.specs.PortMessages.{passed}
+use Rattle.yt_trace.specs.Traces.{PortMessage}
 use Rattle.yt_list.specs.Numbered.{numbered}
 use Rattle.yt_serial.specs.SerialHandling.{Handled, Serial, messages_at, items_of, handled_of, brought, start, port_of, handle_message, message_of, serial_step, serial_run, plan_of, plan_of_log}
 use Rattle.yt_graph.specs.Labels.{no_port}

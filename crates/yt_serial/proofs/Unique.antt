@@ -24,10 +24,10 @@ use Rattle.yt_rates.specs.Rates.{period_of}
 use Rattle.yt_rates.specs.Tables.{tasks_of}
 use Rattle.yt_rates.specs.Tables as tables
 use Rattle.yt_serial.specs.declared.shown.OutLine.{OutLine}
-use Rattle.yt_serial.specs.declared.trace.Message.{Message}
+use Rattle.yt_trace.specs.declared.message.Message.{Message}
 use Rattle.yt_serial.specs.Beginnings.{begun_below, nth_job, order_of}
 use Rattle.yt_serial.specs.Premises.{CanRun}
-use Rattle.yt_serial.specs.PortMessages.{PortMessage}
+use Rattle.yt_trace.specs.Traces.{PortMessage}
 use Rattle.yt_list.specs.Numbered.{numbered}
 use Rattle.yt_serial.specs.SerialHandling.{Serial, messages_at, items_of, start, serial_step, serial_run, plan_of_log}
 use Rattle.yt_serial.specs.Told.{line_before, latest, AllHandled, IsPromisedRun}

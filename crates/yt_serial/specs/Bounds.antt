@@ -1,5 +1,5 @@
 -- How many messages a run may come to: of each port, by its chain of sources, and of each output.
-use Rattle.std.specs.Prelude.{◌≡◌, ℕ, zero, suc, ◌-◌, ◌*◌, ◌/◌, ◌≤◌, List, length, slice_get, Some}
+use Rattle.std.specs.Prelude.{◌≡◌, ℕ, zero, suc, ◌*◌, ◌/◌, ◌≤◌, List, length, Some}
 use Rattle.std.specs.Option.{option_map, unwrap_or}
 use Rattle.yt_graph.specs.declared.graph.Output.{Output}
 use Rattle.yt_graph.specs.declared.port.Feed as feed
@@ -8,8 +8,8 @@ use Rattle.yt_graph.specs.Cost.{greatest_sends}
 use Rattle.yt_graph.specs.Picture.{GraphTree, PortTree}
 use Rattle.yt_log.specs.declared.job.Job.{Job}
 use Rattle.yt_rates.specs.Rates.{every_of}
-use Rattle.yt_serial.specs.declared.trace.Message.{Message}
-use Rattle.yt_serial.specs.PortMessages.{messages_of}
+use Rattle.yt_trace.specs.declared.message.Message.{Message}
+use Rattle.yt_trace.specs.Traces.{messages_of}
 use Rattle.yt_list.specs.Numbered.{numbered}
 use Rattle.yt_serial.specs.SerialHandling.{Serial, messages_at, handled_of}
 use Rattle.yt_serial.specs.Premises.{IsHandling}
@@ -24,7 +24,7 @@ abbrev pub most_messages_within : GraphTree → List Message → ℕ → Feed �
 most_messages_within g trace n (feed.TheVariants.Input input) = length (messages_of input trace)
 most_messages_within g trace zero (feed.TheVariants.Out port out) = 0
 most_messages_within g trace (suc n) (feed.TheVariants.Out port out) =
-    unwrap_or (option_map (λ p. greatest_passed p out (most_messages_within g trace n p.feed)) (slice_get g.ports (port - 1))) 0
+    unwrap_or (option_map (λ p. greatest_passed p out (most_messages_within g trace n p.feed)) (numbered g.ports port)) 0
 
 -- the most messages at a port
 abbrev pub most_messages : GraphTree → List Message → PortTree → ℕ

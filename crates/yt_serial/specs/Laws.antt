@@ -7,8 +7,8 @@ use Rattle.yt_log.specs.Plan.{IsLegal}
 use Rattle.yt_log.specs.Ticks.{Ticks}
 use Rattle.yt_rates.specs.Rates.{period_of}
 use Rattle.yt_rates.specs.Tables.{tasks_of}
-use Rattle.yt_serial.specs.declared.trace.Message.{Message}
-use Rattle.yt_serial.specs.PortMessages.{AreApart}
+use Rattle.yt_trace.specs.declared.message.Message.{Message}
+use Rattle.yt_trace.specs.Traces.{AreApart}
 use Rattle.yt_list.specs.Numbered.{numbered}
 use Rattle.yt_serial.specs.SerialHandling.{Handled, Serial, messages_at, plan_of, plan_of_log}
 use Rattle.yt_serial.specs.Variables.{variables_at}

@@ -1,6 +1,4 @@
-pub mod Limits
 pub mod PortMessages
-pub mod Traces
 pub mod Beginnings
 pub mod SerialHandling
 pub mod Told

@@ -6,9 +6,9 @@ use Rattle.yt_log.specs.declared.job.Job.{Job}
 use Rattle.yt_log.specs.Laws.{RuleKeeps}
 use Rattle.yt_rates.specs.Faults.{IsWithinRates}
 use Rattle.yt_rates.specs.Tables.{tasks_of}
-use Rattle.yt_serial.specs.declared.trace.Message.{Message}
+use Rattle.yt_trace.specs.declared.message.Message.{Message}
 use Rattle.yt_serial.specs.SerialHandling.{Serial, serial_run, start}
-use Rattle.yt_serial.specs.Traces.{KeepsPeriods}
+use Rattle.yt_trace.specs.Traces.{KeepsPeriods}
 
 -- a graph and a trace that can be run: the graph is well formed, its rates are within their limits, and the trace keeps its periods
 pub record CanRun (g : GraphTree) (trace : List Message) : Type 0 where

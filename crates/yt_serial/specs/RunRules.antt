@@ -9,7 +9,7 @@ use Rattle.yt_log.specs.Tasks.{Has}
 use Rattle.yt_log.specs.Ticks.{Ticks, done}
 use Rattle.yt_rates.specs.Tables.{tasks_of}
 use Rattle.yt_serial.specs.declared.shown.OutLine.{OutLine}
-use Rattle.yt_serial.specs.declared.trace.Message.{Message}
+use Rattle.yt_trace.specs.declared.message.Message.{Message}
 use Rattle.yt_serial.specs.Beginnings.{busy_until}
 use Rattle.yt_serial.specs.Premises.{CanRun, IsSchedulable}
 use Rattle.yt_serial.specs.SerialHandling.{Serial, handled_along, plan_of_log}

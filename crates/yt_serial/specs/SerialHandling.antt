@@ -15,9 +15,10 @@ use Rattle.yt_log.specs.Patterns.{item_before}
 use Rattle.yt_log.specs.Plan.{jobs_of}
 use Rattle.yt_log.specs.Ticks.{Ticks}
 use Rattle.yt_serial.specs.declared.shown.OutLine.{OutLine}
-use Rattle.yt_serial.specs.declared.trace.Message.{Message}
+use Rattle.yt_trace.specs.declared.message.Message.{Message}
 use Rattle.yt_serial.specs.Beginnings.{order_of}
-use Rattle.yt_serial.specs.PortMessages.{PortMessage, messages_of, passed}
+use Rattle.yt_serial.specs.PortMessages.{passed}
+use Rattle.yt_trace.specs.Traces.{PortMessage, messages_of}
 use Rattle.yt_list.specs.Numbered.{numbered}
 
 -- a message that was handled: the item of its job, whose cost is the ticks that it took, and the writes of variables

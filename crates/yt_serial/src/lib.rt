@@ -10,11 +10,9 @@
 
 mod laws;
 mod shown;
-mod trace;
 
 pub use laws::{
     log_plans_are_legal, messages_are_apart, messages_are_bounded, plans_are_legal,
     run_rules_are_exact, variables_stay,
 };
 pub use shown::{OutLine, Outs};
-pub use trace::{Message, Trace};

@@ -3,3 +3,4 @@ mod Demands
 mod Hyperperiods
 mod Multiples
 mod NamedLemmas
+mod Numbers

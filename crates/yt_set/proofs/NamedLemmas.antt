@@ -36,8 +36,8 @@ grows groups group = by (eqb (length group) 0 || is_among group groups)
     by false = record { all = omega (arith, length-append groups (group ∷ [])); one = omega (arith, length-append groups (group ∷ [])) }
 
 -- a resource's number is among those of the names
-numbered : (groups : List (List ℕ)) (group : List ℕ) → number_of groups group ≤ length (with_group groups group)
-numbered groups group = by (eqb (length group) 0) (is_among group groups) refl
+number_within : (groups : List (List ℕ)) (group : List ℕ) → number_of groups group ≤ length (with_group groups group)
+number_within groups group = by (eqb (length group) 0) (is_among group groups) refl
   where
     by : (none among : Bool) → is_among group groups ≡ among → cond none 0 (position_or_len (bytes_eq group) groups + 1) ≤ length (cond (none || among) groups (groups ++ group ∷ []))
     by true among e = omega arith
@@ -76,6 +76,6 @@ named_more read name cost period group is hc hp hn hg room =
       groups = groups_more read.groups group is.groups hg;
       grouped = All-append (λ t. t.resource ≤ length (with_group read.groups group)) read.tasks (new ∷ [])
           (λ k d lt. let here = is.grouped k d lt in let all = more.all in omega arith)
-          (all_one (λ t. t.resource ≤ length (with_group read.groups group)) new (numbered read.groups group));
+          (all_one (λ t. t.resource ≤ length (with_group read.groups group)) new (number_within read.groups group));
       few = let one = more.one in omega arith;
     }

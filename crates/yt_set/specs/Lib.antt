@@ -5,4 +5,5 @@ pub mod Worked
 pub mod NamedTasks
 pub mod SetText
 pub mod Printed
-pub mod Reading
+-- How sets' texts are read.
+pub mod Inside

@@ -18,5 +18,5 @@ pub use laws::{hyperperiod_is_least, worked_loads};
 pub use named::NamedSet;
 pub use put::put_task;
 pub use read::{LineFault, SetFault, read_set};
-pub use set::{MOST_TASKS, TaskSet};
+pub use set::{MOST_TASKS, MOST_TICKS, TaskSet};
 pub use task::Task;

@@ -1,6 +1,7 @@
 //! Sets whose tasks and resources have names.
-ghost use Rattle.std.specs.Prelude.{◌≡◌, ◌-◌, ◌<◌, ◌≤◌, length, slice_get, Some};
+ghost use Rattle.std.specs.Prelude.{◌≡◌, ◌≤◌, length, Some};
 ghost use Rattle.std.specs.List.{All};
+ghost use Rattle.yt_list.specs.Numbered.{numbered};
 ghost use Rattle.yt_set.specs.NamedTasks.{HasNameLength, IsNamed};
 ghost use Rattle.yt_set.specs.Tasks.{IsTaskSet};
 
@@ -62,29 +63,23 @@ impl NamedSet {
         self.labels.as_slice()
     }
 
-    /// The names of the resources in order, as a slice to go over. The name of the resource of number 1 stands at place 0.
-    pub fn groups(&self) -> &[Name]
-        ensures groups { result.now ≡ self.now.groups }
-        ensures lengths { All HasNameLength result.now }
-    {
-        self.groups.as_slice()
-    }
-
     /// The name of a task by its number from 1. The caller shows that it is in the set.
+    #[tactic(auto, using(yt_list::proofs::Lemmas::numbered_place))]
     pub fn label(&self, task: u32) -> &[u8]
         requires positive { 1 ≤ task }
         requires within { task ≤ length self.now.tasks }
-        ensures label { slice_get self.now.labels (task - 1) ≡ Some result.now }
+        ensures label { numbered self.now.labels task ≡ Some result.now }
         ensures length { HasNameLength result.now }
     {
         self.labels.at(task as usize - 1).as_slice()
     }
 
     /// The name of a resource by its number from 1. The caller shows that there is one, as there is for each task's.
+    #[tactic(auto, using(yt_list::proofs::Lemmas::numbered_place))]
     pub fn group(&self, resource: u32) -> &[u8]
         requires positive { 1 ≤ resource }
         requires within { resource ≤ length self.now.groups }
-        ensures group { slice_get self.now.groups (resource - 1) ≡ Some result.now }
+        ensures group { numbered self.now.groups resource ≡ Some result.now }
         ensures length { HasNameLength result.now }
     {
         self.groups.at(resource as usize - 1).as_slice()

@@ -1,6 +1,6 @@
 //! Reads the text of a set.
 ghost use Rattle.std.specs.Prelude.{◌≡◌, ◌<◌, ◌^◌, length, Ok, IfOk, IfErr};
-ghost use Rattle.yt_set.specs.Reading.{fault_of};
+ghost use Rattle.yt_set.specs.Inside.Reading.{fault_of};
 ghost use Rattle.yt_set.specs.SetText.{IsFaultOf, set_of};
 ghost use Rattle.yt_set.specs.declared.read.SetFault.TheVariants.{Memory};
 

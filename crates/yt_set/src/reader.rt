@@ -3,7 +3,7 @@ ghost use Rattle.std.specs.Prelude.{◌≡◌, ◌<◌, ◌≤◌, length, IfOk,
 ghost use Rattle.yt_base.specs.Lines.{fields_of};
 ghost use Rattle.yt_table.specs.Tables.{is_among};
 ghost use Rattle.yt_set.specs.Limits.{most_tasks};
-ghost use Rattle.yt_set.specs.Reading.{with_new};
+ghost use Rattle.yt_set.specs.Inside.Reading.{with_new};
 ghost use Rattle.yt_set.specs.SetText.{in_range, is_group, is_name, judged, no_tasks, number_of, with_group};
 
 use crate::named::NamedSet;

@@ -1,6 +1,7 @@
 //! Sets of tasks in range.
-ghost use Rattle.std.specs.Prelude.{◌≡◌, ◌↔◌, ◌-◌, ◌≤◌, length, slice_get, Some, IfOk, IfErr, IsTrue, min, map};
+ghost use Rattle.std.specs.Prelude.{◌≡◌, ◌↔◌, ◌≤◌, length, Some, IfOk, IfErr, IsTrue, min, map};
 ghost use Rattle.std.specs.List.{All, reduce};
+ghost use Rattle.yt_list.specs.Numbered.{numbered};
 ghost use Rattle.yt_set.specs.Tasks.{IsTask, IsTaskSet, floor_of, users_of, within};
 ghost use Rattle.yt_set.specs.SetText.{in_range};
 ghost use Rattle.yt_set.specs.Limits.{most_tasks};
@@ -12,7 +13,7 @@ use std::marker::Model;
 pub const MOST_TASKS: usize = 64;
 
 /// The greatest cost and the greatest period of a task, in ticks.
-const MOST_TICKS: u64 = 1_000_000;
+pub const MOST_TICKS: u64 = 1_000_000;
 
 /// At most 64 tasks, each with a cost and a period from 1 to 1,000,000 ticks. A contract sees the list of them.
 #[derive(Debug, Drop)]
@@ -66,10 +67,11 @@ impl TaskSet {
     }
 
     /// The task of a number, from 1. The caller shows that it is in the set.
+    #[tactic(auto, using(yt_list::proofs::Lemmas::numbered_place))]
     pub fn task(&self, task: u32) -> Task
         requires positive { 1 ≤ task }
         requires within { task ≤ length self.now }
-        ensures value { slice_get self.now (task - 1) ≡ Some result }
+        ensures value { numbered self.now task ≡ Some result }
         ensures in_range { IsTask result }
     {
         self.tasks[task as usize - 1]

@@ -4,7 +4,7 @@ ghost use Rattle.std.specs.List.{list_all};
 ghost use Rattle.yt_base.specs.Digits.{is_digits};
 ghost use Rattle.yt_base.specs.Lines.{fields_of};
 ghost use Rattle.yt_set.specs.SetText.{task_texts, is_name_byte, is_name, is_group};
-ghost use Rattle.yt_set.specs.Reading.{texts_of, ticks_of};
+ghost use Rattle.yt_set.specs.Inside.Reading.{texts_of, ticks_of};
 
 use crate::read::LineFault;
 use crate::set::in_range;

@@ -1,6 +1,5 @@
 //! Which graphs are accepted, and why the others aren't.
-ghost use Rattle.std.specs.Prelude.{◌≤◌, IfOk, length};
-ghost use Rattle.yt_base.specs.Limits.{most_text_bytes};
+ghost use Rattle.std.specs.Prelude.{IfOk};
 ghost use Rattle.yt_graph.specs.Picture.{graph_tree};
 ghost use Rattle.yt_graph.specs.WellFormed.{IsWellFormed};
 ghost use Rattle.yt_cost.specs.CodeFit.{HasNoCalls};
@@ -15,7 +14,7 @@ use yt_graph::Graph;
 use yt_lexer::lex;
 use yt_names::resolve;
 use yt_parser::parse;
-use yt_rates::{AcceptCause, RateFault, accept};
+use yt_rates::{AcceptCause, Accepted, NotAccepted, RateFault, accept};
 
 /// What is told of a graph.
 #[derive(Debug, PartialEq, Eq, Drop)]
@@ -69,11 +68,11 @@ const GRAPHS: &[(&str, Outcome)] = &[
     ),
 ];
 
-/// The graph of a text without a fault.
+/// The graph of a text without a fault, cut off where it is long.
 fn graph_of(alloc: Global, text: &[u8]) -> Result<Graph, Fail>
-    requires { length text.now ≤ most_text_bytes }
     ensures { IfOk result (λ g. IsWellFormed (graph_tree g) × HasNoCalls (graph_tree g)) }
 {
+    let text = &text[..text.len().min(10_000)];
     let Ok(tokens) = lex(alloc, text) else {
         return Err("a fault of tokens".into());
     };
@@ -86,35 +85,45 @@ fn graph_of(alloc: Global, text: &[u8]) -> Result<Graph, Fail>
     }
 }
 
-/// What is told of the graph of a text. A graph that is refused comes back with all its ports.
-fn judge_graph(rt: &(impl Abort + AllocGlobal), text: &[u8]) -> Result<Outcome, Fail> {
-    let alloc = rt.alloc();
-    assert!(rt; text.len() <= 10_000);
+/// What is told where a graph was judged, and how many ports it has then, refused or not.
+fn told(answer: Result<Accepted, NotAccepted>) -> Result<(Outcome, usize), Fail> {
+    match answer {
+        Ok(accepted) => {
+            let outcome = Outcome::Accepted(accepted.set().len(), accepted.load());
+            Ok((outcome, accepted.graph().ports.len()))
+        }
+        Err(refused) => Ok((cause_told(refused.cause)?, refused.graph.ports.len())),
+    }
+}
+
+/// What is told where a graph is refused for this cause.
+fn cause_told(cause: AcceptCause) -> Result<Outcome, Fail> {
+    match cause {
+        AcceptCause::Rate(fault) => Ok(Outcome::Rate(fault)),
+        AcceptCause::Unfit(why, _) => Ok(Outcome::Unfit(why)),
+        AcceptCause::Memory => Err("no memory".into()),
+    }
+}
+
+/// What is told of the graph of a text, which keeps its ports.
+fn judge_graph(alloc: Global, text: &[u8]) -> Result<Outcome, Fail> {
     let graph = graph_of(alloc, text)?;
     let ports = graph.ports.len();
     let Ok(codes) = compile(alloc, &graph) else {
         return Err("a fault of costs".into());
     };
-    match accept(alloc, graph, codes) {
-        Ok(accepted) => {
-            assert_eq!(rt; accepted.graph().ports.len(), ports);
-            Ok(Outcome::Accepted(accepted.set().len(), accepted.load()))
-        }
-        Err(refused) => {
-            assert_eq!(rt; refused.graph.ports.len(), ports);
-            match refused.cause {
-                AcceptCause::Rate(fault) => Ok(Outcome::Rate(fault)),
-                AcceptCause::Unfit(why, _) => Ok(Outcome::Unfit(why)),
-                AcceptCause::Memory => Err("no memory".into()),
-            }
-        }
+    let (outcome, left) = told(accept(alloc, graph, codes))?;
+    if left != ports {
+        return Err("another graph".into());
     }
+    Ok(outcome)
 }
 
 /// Checks what is told of each graph.
 fn judge_graphs(rt: &(impl Abort + AllocGlobal), rows: &[(&str, Outcome)]) -> Result<(), Fail> {
     for (text, expected) in rows {
-        assert_eq!(rt; &judge_graph(rt, text.as_bytes())?, expected, "at {text}");
+        let outcome = judge_graph(rt.alloc(), text.as_bytes())?;
+        assert_eq!(rt; outcome, *expected, "at {text}");
     }
     Ok(())
 }
@@ -142,6 +151,6 @@ fn sixty_four_ports_that_take_all_ticks_are_accepted(rt: HostRuntime) -> Result<
             whole: 64,
         },
     );
-    assert_eq!(rt; judge_graph(&rt, text.as_slice())?, full);
+    assert_eq!(rt; judge_graph(rt.alloc(), text.as_slice())?, full);
     Ok(())
 }

@@ -1,9 +1,11 @@
 //! Texts of sets, sets in range, and what a set tells.
-use std::alloc::Global;
+ghost use Rattle.std.specs.Prelude.{◌≤◌, length};
+
+use std::alloc::{AllocError, Global};
 use std::process::Abort;
 use std::test::Fail;
-use yt_base::Line;
-use yt_set::{LineFault, SetFault, Task, TaskSet, put_task, read_set};
+use yt_base::{Line, Text};
+use yt_set::{LineFault, NamedSet, SetFault, Task, TaskSet, put_task, read_set};
 
 /// The fault of a text; `None` where it says a set.
 fn fault(alloc: Global, text: &[u8]) -> Result<Option<(u32, LineFault)>, Fail> {
@@ -152,6 +154,32 @@ fn tasks_are_in_range(rt: HostRuntime) -> Result<(), Fail> {
     judge_ranges(&rt, RANGES)
 }
 
+/// The line of a set's task, by its number from 1.
+fn task_text(named: &NamedSet, number: u32) -> Line
+    requires first { 1 ≤ number }
+    requires last { number ≤ length named.now.tasks }
+{
+    let task = named.set().task(number);
+    let label = named.label(number);
+    let mut line = Line::new();
+    if task.resource == 0 {
+        put_task(&mut line, label, task, b"");
+    } else {
+        put_task(&mut line, label, task, named.group(task.resource));
+    }
+    line
+}
+
+/// The lines of a set's tasks.
+fn set_text(alloc: Global, named: &NamedSet) -> Result<Text, AllocError> {
+    let mut text = Text::new(alloc);
+    for n in 0..named.set().len() {
+        text.put(task_text(named, n + 1).bytes())?;
+        text.put(b"\n")?;
+    }
+    Ok(text)
+}
+
 #[test]
 fn sets_are_read(rt: HostRuntime) -> Result<(), Fail> {
     let text = b"task A 1 9 r\n\ntask B.o 5 20 s_2\r\n# task\n task C 2 6 r\ntask D 1 7";
@@ -159,26 +187,12 @@ fn sets_are_read(rt: HostRuntime) -> Result<(), Fail> {
         Ok(named) => named,
         Err(_) => return Err("no set".into()),
     };
-    let set = named.set();
-    let mut read = String::new(rt.alloc());
-    for n in 0..set.len() {
-        let task = set.task(n + 1);
-        let mut line = Line::new();
-        let label = named.label(n + 1);
-        if task.resource == 0 {
-            put_task(&mut line, label, task, b"");
-        } else {
-            put_task(&mut line, label, task, named.group(task.resource));
-        }
-        read.push_str(std::str::from_utf8(line.bytes()).unwrap_or("no text"))?;
-        read.push('\n')?;
-    }
     assert_eq!(rt;
-        read.as_str(),
-        "task A 1 9 r\ntask B.o 5 20 s_2\ntask C 2 6 r\ntask D 1 7\n"
+        set_text(rt.alloc(), &named)?.as_slice(),
+        b"task A 1 9 r\ntask B.o 5 20 s_2\ntask C 2 6 r\ntask D 1 7\n".as_slice()
     );
     for (resource, least) in [(0, None), (1, Some(6)), (2, Some(20)), (3, None)] {
-        assert_eq!(rt; set.floor(resource), least, "at {resource}");
+        assert_eq!(rt; named.set().floor(resource), least, "at {resource}");
     }
     Ok(())
 }

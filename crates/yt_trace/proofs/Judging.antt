@@ -1,22 +1,46 @@
 -- How a line's fields are judged.
 use Rattle.std.proofs.Common.{◌≡◌, ℕ, ◌+◌, ◌-◌, ◌^◌, ◌<◌, ◌≤◌, min, Bool, true, false, not, cond, eqb, ltb, List, [], ◌∷◌, ◌++◌, length, get_or, ℤ, Option, None, Some, Ok, Err, refl, sym, ap, ap₂, subst, ◌∙◌, ⊎_elim, arith}
-use Rattle.std.specs.Prelude.{All, IfSome, IsSomeAnd, slice_get}
+use Rattle.std.specs.Prelude.{All, bytes_eq, map, IfSome, IsSomeAnd}
 use Rattle.std.specs.Option.{option_map, unwrap_or}
 use Rattle.std.proofs.lemmas.Bool.{cases_Bool, cases_lt, cond-true, cond-false, cond_both, lt-ltb}
 use Rattle.std.proofs.lemmas.List.Elements.{All-head, All-tail}
-use Rattle.std.proofs.lemmas.Option.{slice_get_read, slice_get_within}
+use Rattle.std.proofs.lemmas.Option.{get_or_from_slice_get, slice_get_read, slice_get_within}
 use Rattle.yt_base.specs.Digits.{is_digits, value_of}
 use Rattle.yt_graph.specs.declared.graph.Input.{Input}
 use Rattle.yt_graph.specs.Inputs.{period_in, width_in}
+use Rattle.yt_graph.specs.Limits.{most_period}
+use Rattle.yt_table.specs.Tables.{first_of}
+use Rattle.yt_table.proofs.Lemmas.{numbered_from}
 use Rattle.yt_trace.specs.declared.message.Message.{Message}
 use Rattle.yt_trace.specs.declared.message_fault.MessageFault.{MessageFault}
 use Rattle.yt_trace.specs.declared.message_fault.MessageFault.TheVariants.{Form, Late, Width}
-use Rattle.yt_list.proofs.Lemmas.{numbered_next}
+use Rattle.yt_list.proofs.Lemmas.{numbered_next, numbered_there}
+use Rattle.yt_list.specs.Numbered.{numbered, numbered_or}
 use Rattle.yt_trace.specs.Traces.{KeepsPeriodsOf, latest_time}
-use Rattle.yt_trace.specs.TraceText.{Said, judged, judged_input, judged_said, judged_place, last_from, last_time, least_time, message_fault, place_of, said_with, unless, values_of, with_message}
+use Rattle.yt_trace.specs.TraceText.{Said, judged, judged_input, judged_said, judged_number, last_from, last_time, least_time, message_fault, input_named, said_with, unless, values_of, with_message}
 use Rattle.yt_trace.specs.Inside.Lines.{LineHead, capped, line_head}
-use Rattle.yt_trace.specs.Inside.Reading.{AreLast, IsFine, IsNext, TraceSoFar, judged_so_far, so_far}
+use Rattle.yt_trace.specs.Inside.Reading.{IsFine, IsNext, IsSoFar, TraceSoFar, judged_so_far, so_far}
 use Rattle.yt_trace.proofs.LastTimes.{last_is}
+
+-- the input of a name, by its place
+pub named_at : (inputs : List Input) (name : List ℕ) (place : ℕ) → Some place ≡ first_of name 0 (map (λ i. i.name) inputs) → input_named inputs name ≡ Some (place + 1)
+named_at inputs name place first =
+    let next : 1 + place ≡ place + 1 = omega arith in
+    numbered_from (bytes_eq name) 1 (map (λ i. i.name) inputs) ∙ ap (option_map (λ n. 1 + n)) (sym first) ∙ ap (λ (n : ℕ). Some n) next
+
+pub named_none : (inputs : List Input) (name : List ℕ) → None ≡ first_of name 0 (map (λ i. i.name) inputs) → input_named inputs name ≡ None
+named_none inputs name first = numbered_from (bytes_eq name) 1 (map (λ i. i.name) inputs) ∙ ap (option_map (λ n. 1 + n)) (sym first)
+
+pub at_place : (inputs all : List Input) (place : ℕ) (input : Input) → place < length inputs → all ≡ inputs → input ≡ get_or all place input → numbered inputs (place + 1) ≡ Some input
+at_place inputs all place input within same at =
+    numbered_next inputs place ∙ slice_get_read inputs (length inputs) place input refl within (at ∙ ap (λ (xs : List Input). get_or xs place input) same)
+
+-- what has a number stands within the list
+pub numbered_within : (inputs : List Input) (number : ℕ) (input : Input) → numbered inputs number ≡ Some input → (1 ≤ number) × (number ≤ length inputs)
+numbered_within inputs number input is =
+    let there = numbered_there inputs number input is in
+    let within = slice_get_within inputs (number - 1) input there.1 in
+    (there.0, omega arith)
 
 late_first : (b l : Bool) (rest : Option MessageFault) → l ≡ true → cond b (Some Width) (cond l (Some Late) rest) ≡ Some (cond b Width Late)
 late_first true l rest e = refl
@@ -28,25 +52,24 @@ late_fault : (wide period : ℕ) (last : Option ℕ) (latest messages time width
 late_fault wide period last latest messages time width late = late_first (not (eqb width wide)) (ltb 4000000 time) _ (lt-ltb 4000000 time late)
 
 -- so all ticks past it are judged the same
-past : (inputs : List Input) (trace : List Message) (values : List ℤ) (t u width : ℕ) (place : Option ℕ) → 4000000 < t → 4000000 < u →
-    with_message trace t values (judged_place inputs trace t width place) ≡ with_message trace u values (judged_place inputs trace u width place)
+past : (inputs : List Input) (trace : List Message) (values : List ℤ) (t u width : ℕ) (input : Option ℕ) → 4000000 < t → 4000000 < u →
+    with_message trace t values (judged_number inputs trace t width input) ≡ with_message trace u values (judged_number inputs trace u width input)
 past inputs trace values t u width None late also = refl
-past inputs trace values t u width (Some place) late also =
-    let n = place + 1 in
+past inputs trace values t u width (Some n) late also =
     let at : ℕ → Option MessageFault = λ time. message_fault (width_in inputs n) (period_in inputs n) (last_time n trace) (latest_time trace) (length trace) time width in
     let one : at t ≡ Some (cond (not (eqb width (width_in inputs n))) Width Late) = late_fault (width_in inputs n) (period_in inputs n) (last_time n trace) (latest_time trace) (length trace) t width late in
     let two : at u ≡ Some (cond (not (eqb width (width_in inputs n))) Width Late) = late_fault (width_in inputs n) (period_in inputs n) (last_time n trace) (latest_time trace) (length trace) u width also in
     ap (λ (o : Option MessageFault). with_message trace t values (unless o n)) one ∙ sym (ap (λ (o : Option MessageFault). with_message trace u values (unless o n)) two)
 
 -- and a number past 2 ^ 64 - 1 may stand for a greater one
-capped_time : (inputs : List Input) (trace : List Message) (values : List ℤ) (time width : ℕ) (place : Option ℕ) →
-    with_message trace time values (judged_place inputs trace time width place) ≡ with_message trace (min time (2 ^ 64 - 1)) values (judged_place inputs trace (min time (2 ^ 64 - 1)) width place)
-capped_time inputs trace values time width place =
+capped_time : (inputs : List Input) (trace : List Message) (values : List ℤ) (time width : ℕ) (input : Option ℕ) →
+    with_message trace time values (judged_number inputs trace time width input) ≡ with_message trace (min time (2 ^ 64 - 1)) values (judged_number inputs trace (min time (2 ^ 64 - 1)) width input)
+capped_time inputs trace values time width input =
     ⊎_elim
-    (λ (over : 2 ^ 64 - 1 < time). past inputs trace values time (min time (2 ^ 64 - 1)) width place (omega arith) (omega arith))
+    (λ (over : 2 ^ 64 - 1 < time). past inputs trace values time (min time (2 ^ 64 - 1)) width input (omega arith) (omega arith))
     (λ (le : time ≤ 2 ^ 64 - 1).
     let same : time ≡ min time (2 ^ 64 - 1) = omega arith in
-    ap (λ (t : ℕ). with_message trace t values (judged_place inputs trace t width place)) same)
+    ap (λ (t : ℕ). with_message trace t values (judged_number inputs trace t width input)) same)
     (cases_lt (2 ^ 64 - 1) time)
 
 some_head : (b : Bool) (x y : LineHead) → cond b (Some x) None ≡ Some y → (b ≡ true) × (x ≡ y)
@@ -64,7 +87,7 @@ judged_line inputs trace (time ∷ name ∷ fields) head values is vs =
     subst P parts.1
     (λ (v : values_of fields ≡ Some values).
     ap (λ (o : Option Said). judged_said inputs trace o) (ap (said_with time name) v ∙ cond-true (is_digits time) _ _ parts.0) ∙
-    capped_time inputs trace values (value_of time) (length values) (place_of inputs name))
+    capped_time inputs trace values (value_of time) (length values) (input_named inputs name))
     vs
 
 -- where the time isn't digits, nothing is said
@@ -92,48 +115,44 @@ no_values inputs trace (time ∷ name ∷ fields) head is vs =
     subst P parts.1 (λ (v : values_of fields ≡ None). ap (λ (o : Option (List ℤ)). judged_said inputs trace (said_with time name o)) v) vs
 
 -- what the tests of an input's next message stand for
-pub record IsTested (read : TraceSoFar) (place : ℕ) (name : List ℕ) (input : Input) (last : Option ℕ) (latest messages : ℕ) : Type 0 where
-  pub found : Some place ≡ place_of read.inputs name
-  pub at : slice_get read.inputs place ≡ Some input
-  pub last_is : last ≡ last_time (place + 1) read.trace
+pub record IsTested (read : TraceSoFar) (number : ℕ) (name : List ℕ) (input : Input) (last : Option ℕ) (latest messages : ℕ) : Type 0 where
+  pub found : input_named read.inputs name ≡ Some number
+  pub at : numbered read.inputs number ≡ Some input
+  pub last_is : last ≡ last_time number read.trace
   pub latest_is : latest ≡ latest_time read.trace
   pub counted : messages ≡ length read.trace
 
 -- they judge it
-pub tested_answer : (read now : TraceSoFar) (place : ℕ) (name : List ℕ) (input : Input) (last : Option ℕ) (latest messages time width : ℕ) (o : Option MessageFault) → read ≡ now →
-    IsTested read place name input last latest messages → o ≡ message_fault input.width input.period last latest messages time width → judged_input now.inputs now.trace time name width ≡ unless o (place + 1)
-tested_answer read now place name input last latest messages time width o same t is =
-    let n = numbered_next read.inputs place ∙ t.at in
-    let wide : width_in read.inputs (place + 1) ≡ input.width = ap (λ (i : Option Input). unwrap_or (option_map (λ i. i.width) i) 0) n in
-    let period : period_in read.inputs (place + 1) ≡ input.period = ap (λ (i : Option Input). unwrap_or (option_map (λ i. i.period) i) 0) n in
-    subst (λ (r : TraceSoFar). judged_input r.inputs r.trace time name width ≡ unless o (place + 1)) same
-    (ap (judged_place read.inputs read.trace time width) (sym t.found) ∙
-    ap (λ (f : Option MessageFault). unless f (place + 1))
-    (ap₂ (λ (w p : ℕ). message_fault w p (last_time (place + 1) read.trace) (latest_time read.trace) (length read.trace) time width) wide period ∙
+pub tested_answer : (read : TraceSoFar) (number : ℕ) (name : List ℕ) (input : Input) (last : Option ℕ) (latest messages time width : ℕ) (o : Option MessageFault) →
+    IsTested read number name input last latest messages → o ≡ message_fault input.width input.period last latest messages time width → judged_input read.inputs read.trace time name width ≡ unless o number
+tested_answer read number name input last latest messages time width o t is =
+    let wide : width_in read.inputs number ≡ input.width = ap (λ (i : Option Input). unwrap_or (option_map (λ i. i.width) i) 0) t.at in
+    let period : period_in read.inputs number ≡ input.period = ap (λ (i : Option Input). unwrap_or (option_map (λ i. i.period) i) 0) t.at in
+    ap (judged_number read.inputs read.trace time width) t.found ∙
+    ap (λ (f : Option MessageFault). unless f number)
+    (ap₂ (λ (w p : ℕ). message_fault w p (last_time number read.trace) (latest_time read.trace) (length read.trace) time width) wide period ∙
     ap (λ (l : Option ℕ). message_fault input.width input.period l (latest_time read.trace) (length read.trace) time width) (sym t.last_is) ∙
-    ap₂ (λ (m n : ℕ). message_fault input.width input.period last m n time width) (sym t.latest_is) (sym t.counted) ∙ sym is))
+    ap₂ (λ (m n : ℕ). message_fault input.width input.period last m n time width) (sym t.latest_is) (sym t.counted) ∙ sym is)
 
 -- without a fault it may come next
-pub tested_next : (read now : TraceSoFar) (place : ℕ) (name : List ℕ) (input : Input) (last : Option ℕ) (latest messages time width : ℕ) → read ≡ now →
-    IsTested read place name input last latest messages → IsFine input last latest messages time width → IsNext now (place + 1) time width
-tested_next read now place name input last latest messages time width same t fine =
-    let n = numbered_next read.inputs place ∙ t.at in
-    let within = slice_get_within read.inputs place input t.at in
-    let period : period_in read.inputs (place + 1) ≡ input.period = ap (λ (i : Option Input). unwrap_or (option_map (λ i. i.period) i) 0) n in
+pub tested_next : (read : TraceSoFar) (number : ℕ) (name : List ℕ) (input : Input) (last : Option ℕ) (latest messages time width : ℕ) →
+    IsTested read number name input last latest messages → IsFine input last latest messages time width → IsNext read number time width
+tested_next read number name input last latest messages time width t fine =
+    let there = numbered_within read.inputs number input t.at in
+    let period : period_in read.inputs number ≡ input.period = ap (λ (i : Option Input). unwrap_or (option_map (λ i. i.period) i) 0) t.at in
     let order = fine.order in
     let room = fine.room in
     let latest_is = t.latest_is in
     let counted = t.counted in
-    subst (λ (r : TraceSoFar). IsNext r (place + 1) time width) same
-    (record {
-      from_one = omega arith;
-      there = omega arith;
-      wide = subst (λ (o : Option Input). IsSomeAnd o (λ i. i.width ≡ width)) (sym n) (sym fine.wide);
+    record {
+      from_one = there.0;
+      there = there.1;
+      wide = subst (λ (o : Option Input). IsSomeAnd o (λ i. i.width ≡ width)) (sym t.at) (sym fine.wide);
       in_time = fine.in_time;
       order = omega arith;
-      apart = subst (λ (p : ℕ). least_time p (last_time (place + 1) read.trace) ≤ time) (sym period) (subst (λ (l : Option ℕ). least_time input.period l ≤ time) t.last_is fine.apart);
+      apart = subst (λ (p : ℕ). least_time p (last_time number read.trace) ≤ time) (sym period) (subst (λ (l : Option ℕ). least_time input.period l ≤ time) t.last_is fine.apart);
       room = omega arith;
-    })
+    }
 
 -- an input's last time is within the limit
 pub last_early : (inputs : List Input) (trace : List Message) (input : ℕ) → KeepsPeriodsOf inputs trace → IfSome (last_time input trace) (λ t. t ≤ 4000000)
@@ -147,16 +166,37 @@ last_early inputs trace input keeps = early_from None input trace tt (λ k d lt.
         (All-tail (λ (x : Message). x.time ≤ 4000000) m trace all)
 
 -- the tests are of what was read
-pub tested_is : (inputs all : List Input) (trace : List Message) (times : List (Option ℕ)) (place : ℕ) (name : List ℕ) (input : Input) (last : Option ℕ) (latest messages : ℕ) → length inputs ≤ 16 → AreLast times trace →
-    Some place ≡ place_of inputs name → place < length inputs → all ≡ inputs → input ≡ get_or all place input → slice_get times (place + 1 - 1) ≡ Some last → latest ≡ latest_time trace → messages ≡ length trace →
-    IsTested (record { inputs = inputs; trace = trace }) place name input last latest messages
-tested_is inputs all trace times place name input last latest messages few are found within same at kept latest_is counted = record {
-  found = found;
-  at = slice_get_read inputs (length inputs) place input refl within (at ∙ ap (λ (xs : List Input). get_or xs place input) same);
-  last_is = last_is times trace (place + 1) last (omega arith) (omega arith) are kept;
-  latest_is = latest_is;
-  counted = counted;
-}
+pub tested_is : (read now : TraceSoFar) (times : List (Option ℕ)) (number : ℕ) (name : List ℕ) (input : Input) (last : Option ℕ) (latest messages : ℕ) → read ≡ now → IsSoFar read times →
+    input_named now.inputs name ≡ Some number → numbered now.inputs number ≡ Some input → last ≡ numbered_or times number None → latest ≡ latest_time read.trace → messages ≡ length read.trace →
+    IsTested now number name input last latest messages
+tested_is read now times number name input last latest messages same so_far found at kept latest_is counted =
+    let there = numbered_within now.inputs number input at in
+    let here = subst (λ (r : TraceSoFar). IsSoFar r times) same so_far in
+    let few = here.are_inputs.few in
+    record {
+      found = found;
+      at = at;
+      last_is = last_is times now.trace number last there.0 (omega (arith, there.1)) here.last kept;
+      latest_is = latest_is ∙ ap (λ (r : TraceSoFar). latest_time r.trace) same;
+      counted = counted ∙ ap (λ (r : TraceSoFar). length r.trace) same;
+    }
+
+-- so the input's last time and its period are within the limits
+pub last_fits : (read now : TraceSoFar) (times : List (Option ℕ)) (number : ℕ) (input : Input) (last : Option ℕ) → read ≡ now → IsSoFar read times →
+    numbered now.inputs number ≡ Some input → last ≡ numbered_or times number None → IfSome last (λ t. t ≤ 4000000)
+last_fits read now times number input last same so_far at kept =
+    let there = numbered_within now.inputs number input at in
+    let here = subst (λ (r : TraceSoFar). IsSoFar r times) same so_far in
+    let few = here.are_inputs.few in
+    let is = last_is times now.trace number last there.0 (omega (arith, there.1)) here.last kept in
+    subst (λ (o : Option ℕ). IfSome o (λ t. t ≤ 4000000)) (sym is) (last_early now.inputs now.trace number here.keeps)
+
+pub period_fits : (read now : TraceSoFar) (times : List (Option ℕ)) (number : ℕ) (input : Input) → read ≡ now → IsSoFar read times → numbered now.inputs number ≡ Some input → input.period ≤ most_period
+period_fits read now times number input same so_far at =
+    let here = subst (λ (r : TraceSoFar). IsSoFar r times) same so_far in
+    let there = numbered_there now.inputs number input at in
+    subst (λ (i : Input). i.period ≤ most_period) (get_or_from_slice_get now.inputs (number - 1) input input there.1)
+    (here.are_inputs.periods (number - 1) input (slice_get_within now.inputs (number - 1) input there.1))
 
 -- what comes of a line whose input has a fault, or none
 pub read_err : (read : TraceSoFar) (fields : List (List ℕ)) (head : LineHead) (values : List ℤ) (width : ℕ) (fault : MessageFault) → line_head fields ≡ Some head → values_of head.values ≡ Some values → width ≡ length values →

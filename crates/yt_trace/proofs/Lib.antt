@@ -1,5 +1,6 @@
 pub mod Lemmas
 mod Adding
 mod Judging
+mod Keeping
 mod LastTimes
 mod Reading

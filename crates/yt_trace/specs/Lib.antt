@@ -4,6 +4,8 @@ pub mod Limits
 pub mod Traces
 -- The text of a trace.
 pub mod TraceText
+-- What is proved of texts.
+pub mod Laws
 -- Worked texts.
 pub mod Worked
 -- How a text is read.

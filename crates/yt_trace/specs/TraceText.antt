@@ -41,9 +41,9 @@ abbrev pub said_of : List (List ℕ) → Option Said
 said_of (time ∷ input ∷ fields) = said_with time input (values_of fields)
 said_of _ = None
 
--- the place of the first input of a name, from 0
-abbrev pub place_of : List Input → List ℕ → Option ℕ
-place_of inputs name = first_of name 0 (map (λ i. i.name) inputs)
+-- the number of the first input of a name, from 1
+abbrev pub input_named : List Input → List ℕ → Option ℕ
+input_named inputs name = first_of name 1 (map (λ i. i.name) inputs)
 
 -- the time of an input's last message, t where there is none
 abbrev pub last_from : Option ℕ → ℕ → List Message → Option ℕ
@@ -74,19 +74,15 @@ abbrev pub unless : Option MessageFault → ℕ → Result ℕ MessageFault
 unless None number = Ok number
 unless (Some fault) number = Err fault
 
--- the number of an input of which so wide a message may come next at this tick, or the first fault
-abbrev pub judged_number : List Input → List Message → ℕ → ℕ → ℕ → Result ℕ MessageFault
-judged_number inputs trace time width input =
+-- the number of an input, where there is one, of which so wide a message may come next at this tick, or the first fault
+abbrev pub judged_number : List Input → List Message → ℕ → ℕ → Option ℕ → Result ℕ MessageFault
+judged_number inputs trace time width None = Err Unknown
+judged_number inputs trace time width (Some input) =
     unless (message_fault (width_in inputs input) (period_in inputs input) (last_time input trace) (latest_time trace) (length trace) time width) input
-
--- the same of the input at a place, from 0, where there is one
-abbrev pub judged_place : List Input → List Message → ℕ → ℕ → Option ℕ → Result ℕ MessageFault
-judged_place inputs trace time width None = Err Unknown
-judged_place inputs trace time width (Some place) = judged_number inputs trace time width (place + 1)
 
 -- the same of the input that a name says
 abbrev pub judged_input : List Input → List Message → ℕ → List ℕ → ℕ → Result ℕ MessageFault
-judged_input inputs trace time name width = judged_place inputs trace time width (place_of inputs name)
+judged_input inputs trace time name width = judged_number inputs trace time width (input_named inputs name)
 
 -- the trace with a message of the input of a number, or the fault
 abbrev pub with_message : List Message → ℕ → List ℤ → Result ℕ MessageFault → Result (List Message) MessageFault

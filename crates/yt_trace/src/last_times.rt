@@ -1,10 +1,12 @@
 //! The time of each input's last message so far.
-ghost use Rattle.std.specs.Prelude.{◌≡◌, ◌-◌, ◌≤◌, [], ◌∷◌, ◌++◌, List, slice_get, Some};
+ghost use Rattle.std.specs.Prelude.{◌≡◌, ◌≤◌, [], ◌∷◌, ◌++◌, List, None};
 ghost use Rattle.yt_graph.specs.Limits.{most_inputs};
+ghost use Rattle.yt_list.specs.Numbered.{numbered_or};
 ghost use Rattle.yt_trace.specs.declared.message.Message.{Message};
 ghost use Rattle.yt_trace.specs.Inside.Reading.{AreLast};
 
 use yt_graph::MOST_INPUTS;
+use yt_list::numbered;
 
 /// The time of the last message so far of each input, by its number from 1.
 #[derive(Drop)]
@@ -24,11 +26,9 @@ impl LastTimes {
 
     /// The time of an input's last message; `None` where it has none.
     pub(crate) fn of(&self, input: u32) -> Option<u64>
-        requires positive { 1 ≤ input }
-        requires within { input ≤ most_inputs }
-        ensures { slice_get self.now.times (input - 1) ≡ Some result }
+        ensures { result ≡ numbered_or self.now.times input None }
     {
-        self.times[input as usize - 1]
+        *numbered(&self.times, input)?
     }
 
     /// Takes a tick as the time of an input's last message.

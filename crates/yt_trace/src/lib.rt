@@ -15,8 +15,11 @@ mod read;
 mod reader;
 mod trace;
 
-pub use laws::{worked_faults, worked_traces};
+pub use laws::{
+    no_trace_and_fault, trace_or_fault, traces_keep_periods, worked_faults, worked_traces,
+};
 pub use limits::{MOST_MESSAGES, MOST_TIME};
 pub use message::Message;
+pub use message_fault::MessageFault;
 pub use read::{TraceFault, read_trace};
 pub use trace::Trace;

@@ -2,7 +2,7 @@
 
 /// What is wrong with a message's line. Of several faults the first in this order counts.
 #[derive(Clone, Copy, Debug, PartialEq, Eq, Drop)]
-pub(crate) enum MessageFault {
+pub enum MessageFault {
     /// The line has fewer than two fields, a time that isn't digits, or a value that is no number of 64 bits.
     Form,
     /// No input has this name.

@@ -1,9 +1,10 @@
 //! Reads a trace line by line.
-ghost use Rattle.std.specs.Prelude.{◌≡◌, ◌≤◌, [], ◌∷◌, ◌++◌, length, Ok, Err, IfNone, IfOk, IfSome, MatchResult};
+ghost use Rattle.std.specs.Prelude.{◌≡◌, ◌≤◌, [], ◌∷◌, ◌++◌, length, None, Some, Ok, Err, IfNone, IfOk, IfSome, MatchOption, MatchResult};
 ghost use Rattle.yt_graph.specs.Limits.{most_period};
+ghost use Rattle.yt_list.specs.Numbered.{numbered};
 ghost use Rattle.yt_trace.specs.Limits.{most_time};
 ghost use Rattle.yt_trace.specs.Traces.{KeepsPeriodsOf};
-ghost use Rattle.yt_trace.specs.TraceText.{judged_input, least_time, message_fault};
+ghost use Rattle.yt_trace.specs.TraceText.{input_named, judged_input, least_time, message_fault};
 ghost use Rattle.yt_trace.specs.Inside.Reading.{AreInputs, IsFine, IsNext, judged_so_far};
 
 use crate::last_times::LastTimes;
@@ -51,6 +52,16 @@ impl<'a> Reader<'a> {
         })
     }
 
+    /// The first input of a name, and its number, from 1; `None` exactly where no input has the name.
+    fn input_named(&self, name: &[u8]) -> Option<(u32, &Input)>
+        ensures { MatchOption result
+            (input_named self.now.inputs name.now ≡ None)
+            (λ found. (input_named self.now.inputs name.now ≡ Some found.0) × (numbered self.now.inputs found.0 ≡ Some found.1.now)) }
+    {
+        let place = self.inputs.find(name)?;
+        Some((place as u32 + 1, &self.inputs.all()[place]))
+    }
+
     /// The number of the input that a name says, from 1, of which so wide a message may come next at this tick; or the first fault.
     fn judge(&self, time: u64, name: &[u8], width: usize) -> Result<u32, MessageFault>
         ensures answer { MatchResult result
@@ -58,13 +69,11 @@ impl<'a> Reader<'a> {
             (λ fault. judged_input self.now.inputs self.now.trace time name.now width ≡ Err fault) }
         ensures next { IfOk result (λ input. IsNext self.now input time width) }
     {
-        let Some(place) = self.inputs.find(name) else {
+        let Some((number, input)) = self.input_named(name) else {
             return Err(MessageFault::Unknown);
         };
-        let number = place as u32 + 1;
         let last = self.last.of(number);
         let latest = self.trace.latest_time();
-        let input = &self.inputs.all()[place];
         match message_fault(input, last, latest, self.trace.len(), time, width) {
             Some(fault) => Err(fault),
             None => Ok(number),

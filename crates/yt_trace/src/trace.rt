@@ -36,6 +36,14 @@ impl Trace {
         }
     }
 
+    /// Takes over messages that are a trace, with no memory.
+    pub fn from_items(messages: Items<Message>) -> Self
+        requires { IsTrace messages }
+        ensures { result ≡ messages }
+    {
+        Trace { messages }
+    }
+
     /// Adds a message at the end. The caller shows that there is room for it, that it comes by tick 4,000,000, and that it comes no
     /// earlier than the last one. `Err` comes where memory ran out; the trace is then as before.
     pub fn push(&mut self, message: Message) -> Result<(), AllocError>

@@ -122,9 +122,8 @@ fn messages_are_read(rt: HostRuntime) -> Result<(), Fail> {
     Ok(())
 }
 
-#[test]
-fn a_trace_has_at_most_200_000_messages(rt: HostRuntime) -> Result<(), Fail> {
-    let alloc = rt.alloc();
+/// The text of as many messages as a trace may have, of the input `tock`, one each 20 ticks from 0 on.
+fn full_text(alloc: Global) -> Result<Vec<u8>, AllocError> {
     let mut text = Vec::new(alloc);
     for n in 0..200_000u64 {
         let mut line = Line::new();
@@ -132,6 +131,28 @@ fn a_trace_has_at_most_200_000_messages(rt: HostRuntime) -> Result<(), Fail> {
         line.put(b" tock\n");
         text.extend_from_slice(line.bytes())?;
     }
+    Ok(text)
+}
+
+#[test]
+fn a_trace_may_have_200_000_messages(rt: HostRuntime) -> Result<(), Fail> {
+    let alloc = rt.alloc();
+    let Ok(trace) = trace_of(alloc, &full_text(alloc)?)? else {
+        return Err("no trace".into());
+    };
+    assert_eq!(rt; trace.len(), 200_000);
+    let Some(last) = trace.messages().last() else {
+        return Err("no message".into());
+    };
+    assert_eq!(rt; (last.time, last.input), (3_999_980, 2));
+    assert!(rt; last.values.is_empty());
+    Ok(())
+}
+
+#[test]
+fn a_trace_has_at_most_200_000_messages(rt: HostRuntime) -> Result<(), Fail> {
+    let alloc = rt.alloc();
+    let mut text = full_text(alloc)?;
     text.extend_from_slice(b"4000000 tock")?;
     assert_eq!(rt;
         trace_of(alloc, &text)?.err(),

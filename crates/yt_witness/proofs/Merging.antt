@@ -1,6 +1,6 @@
 -- Jobs that arrive one after another, put into a list of jobs in order.
-use Rattle.std.proofs.Common.{◌≡◌, ℕ, zero, suc, ◌+◌, ◌*◌, ◌<◌, ◌≤◌, ◌⊎◌, true, false, ◌&&◌, cond, eqb, ltb, get_or, drop, take, length, List, [], ◌∷◌, ◌++◌, refl, sym, ap, subst, ◌∙◌, inl, inr, ⊎_elim, arith, eqb-true, ltb-true, lt-ltb, add-one, append-nil, append_assoc, drop-cons}
-use Rattle.std.proofs.lemmas.Bool.{both_ways, cases_Bool, cases_lt, and_parts, or_cases, or_left, cond-true, cond-false}
+use Rattle.std.proofs.Common.{◌≡◌, ℕ, zero, suc, ◌+◌, ◌*◌, ◌<◌, ◌≤◌, ◌⊎◌, true, false, get_or, drop, take, length, List, [], ◌∷◌, ◌++◌, refl, sym, ap, subst, ◌∙◌, inl, inr, ⊎_elim, arith, add-one, append-nil, append_assoc, drop-cons}
+use Rattle.std.proofs.lemmas.Bool.{both_ways, cases_Bool, cases_lt}
 use Rattle.std.proofs.lemmas.List.{drop_all}
 use Rattle.yt_log.specs.declared.plan.PlanItem.{PlanItem}
 use Rattle.yt_log.specs.Patterns.{Arrivals, item_before, jobs_arriving}
@@ -8,51 +8,28 @@ use Rattle.yt_log.specs.Plan.{ArriveFrom, last_from}
 use Rattle.yt_log.specs.Tasks.{Has}
 use Rattle.yt_log.proofs.Lemmas.{has_push}
 use Rattle.yt_order.specs.Sorting.{insert_by, sort_by}
+use Rattle.yt_order.proofs.Lemmas.{first_greater, first_less, first_no_greater, first_no_less, insert_behind, insert_in_front}
 use Rattle.yt_witness.specs.Inside.Merging.{AreSpread, is_second_next, with_all}
 
-earlier : (y x : PlanItem) → y.arrival < x.arrival → item_before y x ≡ true
-earlier y x lt = or_left (ltb y.arrival x.arrival) (eqb y.arrival x.arrival && ltb y.job.task x.job.task) (lt-ltb y.arrival x.arrival lt)
+-- when a job arrives
+abbrev arrival : PlanItem → ℕ
+arrival item = item.arrival
 
-no_later : (y x : PlanItem) → item_before y x ≡ true → y.arrival ≤ x.arrival
-no_later y x h =
-    ⊎_elim
-    (λ (l : ltb y.arrival x.arrival ≡ true). let a = ltb-true y.arrival x.arrival l in omega arith)
-    (λ (r : (eqb y.arrival x.arrival && ltb y.job.task x.job.task) ≡ true).
-    let q = eqb-true y.arrival x.arrival (and_parts (eqb y.arrival x.arrival) (ltb y.job.task x.job.task) r).0 in omega arith)
-    (or_cases (ltb y.arrival x.arrival) (eqb y.arrival x.arrival && ltb y.job.task x.job.task) h)
-
-not_later : (y x : PlanItem) → x.arrival < y.arrival → item_before y x ≡ false
-not_later y x lt =
-    ⊎_elim
-    (λ (h : item_before y x ≡ true). let a = no_later y x h in absurd (omega arith))
-    (λ (h : item_before y x ≡ false). h)
-    (cases_Bool (item_before y x))
-
-no_earlier : (y x : PlanItem) → item_before y x ≡ false → x.arrival ≤ y.arrival
-no_earlier y x h =
-    ⊎_elim
-    (λ (l : y.arrival < x.arrival). absurd (both_ways (item_before y x) h (earlier y x l)))
-    (λ (l : x.arrival ≤ y.arrival). l)
-    (cases_lt y.arrival x.arrival)
-
-put_after : (x y : PlanItem) (ys : List PlanItem) → item_before y x ≡ true → insert_by item_before x (y ∷ ys) ≡ y ∷ insert_by item_before x ys
-put_after x y ys h = cond-true (item_before y x) (y ∷ insert_by item_before x ys) (x ∷ y ∷ ys) h
-
-put_here : (x y : PlanItem) (ys : List PlanItem) → item_before y x ≡ false → insert_by item_before x (y ∷ ys) ≡ x ∷ y ∷ ys
-put_here x y ys h = cond-false (item_before y x) (y ∷ insert_by item_before x ys) (x ∷ y ∷ ys) h
+abbrev task_number : PlanItem → ℕ
+task_number item = item.job.task
 
 -- a job that arrives before all of xs stays the first
 behind : (t : ℕ) (xs : List PlanItem) (y : PlanItem) (ys : List PlanItem) → AreSpread t xs → y.arrival < t → with_all xs (y ∷ ys) ≡ y ∷ with_all xs ys
 behind t [] y ys spread lt = refl
 behind t (x ∷ xs) y ys spread lt =
     let first : y.arrival < x.arrival = omega (arith, spread.0) in
-    ap (insert_by item_before x) (behind (suc x.arrival) xs y ys spread.1 (omega arith)) ∙ put_after x y (with_all xs ys) (earlier y x first)
+    ap (insert_by item_before x) (behind (suc x.arrival) xs y ys spread.1 (omega arith)) ∙ insert_behind item_before x y (with_all xs ys) (first_less arrival task_number y x first)
 
 second_next : (t : ℕ) (xs : List PlanItem) (y : PlanItem) (ys : List PlanItem) → AreSpread t xs → is_second_next xs (y ∷ ys) ≡ true → with_all xs (y ∷ ys) ≡ y ∷ with_all xs ys
 second_next t [] y ys spread h = refl
 second_next t (x ∷ xs) y ys spread h =
-    let first = no_later y x h in
-    ap (insert_by item_before x) (behind (suc x.arrival) xs y ys spread.1 (omega arith)) ∙ put_after x y (with_all xs ys) h
+    let first = first_no_greater arrival task_number y x h in
+    ap (insert_by item_before x) (behind (suc x.arrival) xs y ys spread.1 (omega arith)) ∙ insert_behind item_before x y (with_all xs ys) h
 
 -- the first of these jobs, if there is one, doesn't come before x
 abbrev IsLate : PlanItem → List PlanItem → Type 0
@@ -63,19 +40,19 @@ late_put : (x other : PlanItem) (zs : List PlanItem) → item_before other x ≡
 late_put x other [] h late = h
 late_put x other (z ∷ zs) h late =
     ⊎_elim
-    (λ (b : item_before z other ≡ true). subst (λ (l : List PlanItem). IsLate x l) (sym (put_after other z zs b)) late)
-    (λ (b : item_before z other ≡ false). subst (λ (l : List PlanItem). IsLate x l) (sym (put_here other z zs b)) h)
+    (λ (b : item_before z other ≡ true). subst (λ (l : List PlanItem). IsLate x l) (sym (insert_behind item_before other z zs b)) late)
+    (λ (b : item_before z other ≡ false). subst (λ (l : List PlanItem). IsLate x l) (sym (insert_in_front item_before other z zs b)) h)
     (cases_Bool (item_before z other))
 
 late_all : (t : ℕ) (x : PlanItem) (xs ys : List PlanItem) → AreSpread t xs → x.arrival < t → IsLate x ys → IsLate x (with_all xs ys)
 late_all t x [] ys spread lt late = late
 late_all t x (other ∷ xs) ys spread lt late =
     let after : x.arrival < other.arrival = omega (arith, spread.0) in
-    late_put x other (with_all xs ys) (not_later other x after) (late_all (suc other.arrival) x xs ys spread.1 (omega arith) late)
+    late_put x other (with_all xs ys) (first_greater arrival task_number other x after) (late_all (suc other.arrival) x xs ys spread.1 (omega arith) late)
 
 put_first : (x : PlanItem) (zs : List PlanItem) → IsLate x zs → insert_by item_before x zs ≡ x ∷ zs
 put_first x [] late = refl
-put_first x (z ∷ zs) late = put_here x z zs late
+put_first x (z ∷ zs) late = insert_in_front item_before x z zs late
 
 late_next : (x : PlanItem) (xs ys : List PlanItem) → is_second_next (x ∷ xs) ys ≡ false → IsLate x ys
 late_next x xs [] h = tt
@@ -193,9 +170,9 @@ in_order_put t x [] le order = (le, tt)
 in_order_put t x (y ∷ ys) le order =
     ⊎_elim
     (λ (h : item_before y x ≡ true).
-    subst (λ (l : List PlanItem). ArriveFrom t l) (sym (put_after x y ys h)) (order.0, in_order_put y.arrival x ys (no_later y x h) order.1))
+    subst (λ (l : List PlanItem). ArriveFrom t l) (sym (insert_behind item_before x y ys h)) (order.0, in_order_put y.arrival x ys (first_no_greater arrival task_number y x h) order.1))
     (λ (h : item_before y x ≡ false).
-    subst (λ (l : List PlanItem). ArriveFrom t l) (sym (put_here x y ys h)) (le, (no_earlier y x h, order.1)))
+    subst (λ (l : List PlanItem). ArriveFrom t l) (sym (insert_in_front item_before x y ys h)) (le, (first_no_less arrival task_number y x h, order.1)))
     (cases_Bool (item_before y x))
 
 pub sorted_in_order : (xs : List PlanItem) → ArriveFrom 0 (sort_by item_before xs)

@@ -1,15 +1,16 @@
 -- A set has one pattern that shows that it doesn't fit.
-use Rattle.std.proofs.Common.{◌≡◌, ℕ, ◌+◌, ◌-◌, ◌<◌, ◌≤◌, List, get_or, take, length, Some, sym, ap, ap₂, subst, ◌∙◌, ⊎_elim, arith}
+use Rattle.std.proofs.Common.{◌≡◌, ℕ, ◌-◌, ◌<◌, ◌≤◌, List, get_or, take, length, Some, sym, ap, ap₂, subst, ◌∙◌, ⊎_elim, arith}
 use Rattle.std.proofs.lemmas.Bool.{cases_lt}
 use Rattle.std.proofs.lemmas.List.{get_or-take, length-take-le}
 use Rattle.std.proofs.lemmas.Option.{get_or_from_slice_get, slice_get_within}
+use Rattle.yt_list.proofs.Lemmas.{numbered_there}
 use Rattle.yt_set.specs.declared.task.Task.{Task}
 use Rattle.yt_set.specs.Tasks.{LacksRoom, hyperperiod}
 use Rattle.yt_fits.specs.declared.interval.Breach.{Breach}
 use Rattle.yt_fits.specs.declared.unfit.Unfit.{Unfit}
 use Rattle.yt_fits.specs.declared.unfit.Unfit.TheVariants.{Hyperperiod, Overload, Interval}
 use Rattle.yt_fits.specs.Intervals.{HaveRoom, IsFirstBreach}
-use Rattle.yt_fits.specs.Loads.{most_multiple}
+use Rattle.yt_fits.specs.Loads.{hyperperiod_limit}
 use Rattle.yt_fits.specs.Unfits.{IsReason}
 use Rattle.yt_witness.specs.declared.pattern.Pattern.{Pattern}
 use Rattle.yt_witness.specs.declared.pattern.Pattern.TheVariants.{All, Blocker}
@@ -24,7 +25,8 @@ no_shorter : (tasks : List Task) (a b : Breach) → IsFirstBreach tasks a → Is
 no_shorter tasks a b first second lt =
     let low = first.lowest in
     let n = a.task - 1 in
-    lacks_at tasks tasks a n low.task (slice_get_within tasks n low.task low.there) (get_or_from_slice_get tasks n low.task low.task low.there) low.lacks (second.shortest a.len lt)
+    let there = (numbered_there tasks a.task low.task low.there).1 in
+    lacks_at tasks tasks a n low.task (slice_get_within tasks n low.task there) (get_or_from_slice_get tasks n low.task low.task there) low.lacks (second.shortest a.len lt)
 
 -- nor of a lower task, in the same span
 no_lower : (tasks : List Task) (a b : Breach) → IsFirstBreach tasks a → IsFirstBreach tasks b → a.len ≡ b.len → a.task < b.task → ⊥
@@ -33,11 +35,12 @@ no_lower tasks a b first second same lt =
     let high = second.lowest in
     let n = a.task - 1 in
     let m = b.task - 1 in
-    let pos = low.positive in
-    let some = slice_get_within tasks m high.task high.there in
+    let place = numbered_there tasks a.task low.task low.there in
+    let pos = place.0 in
+    let some = slice_get_within tasks m high.task (numbered_there tasks b.task high.task high.there).1 in
     let long = length-take-le m tasks (omega arith) in
     let below : n < m = omega arith in
-    let at = get_or-take m tasks n low.task below ∙ get_or_from_slice_get tasks n low.task low.task low.there in
+    let at = get_or-take m tasks n low.task below ∙ get_or_from_slice_get tasks n low.task low.task place.1 in
     let room = subst (λ (span : ℕ). HaveRoom tasks span (take m tasks)) (sym same) high.lowest in
     lacks_at tasks (take m tasks) a n low.task (omega arith) at low.lacks room
 
@@ -60,9 +63,6 @@ one_breach tasks a b first second =
     (cases_lt a.task b.task) in
     ap₂ (λ (t l : ℕ). Blocker t l) task len
 
-wide_or_narrow : (h : ℕ) → most_multiple < h → h ≤ most_multiple → ⊥
-wide_or_narrow h wide narrow = omega arith
-
 -- two reasons of one set have one pattern
 pub one_pattern : (tasks : List Task) (a b : Unfit) → IsReason tasks a → IsReason tasks b → (p q : Pattern) → pattern_of a ≡ Some p → pattern_of b ≡ Some q → p ≡ q
 one_pattern tasks (Hyperperiod n) b is too p q given same = cc
@@ -82,7 +82,7 @@ one_pattern tasks (Interval a) (Interval b) is too p q given same =
     cc
 
 -- a reason with a pattern is not that the hyperperiod is too great
-pub no_pattern : (tasks : List Task) (why : Unfit) → IsReason tasks why → (p : Pattern) → pattern_of why ≡ Some p → most_multiple < hyperperiod tasks → ⊥
+pub no_pattern : (tasks : List Task) (why : Unfit) → IsReason tasks why → (p : Pattern) → pattern_of why ≡ Some p → hyperperiod_limit tasks < hyperperiod tasks → ⊥
 no_pattern tasks (Hyperperiod n) is p given wide = cc
-no_pattern tasks (Overload sum) is p given wide = wide_or_narrow (hyperperiod tasks) wide is.1
-no_pattern tasks (Interval breach) is p given wide = wide_or_narrow (hyperperiod tasks) wide is.1
+no_pattern tasks (Overload sum) is p given wide = omega (arith, wide, is.1)
+no_pattern tasks (Interval breach) is p given wide = omega (arith, wide, is.1)

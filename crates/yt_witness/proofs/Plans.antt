@@ -1,12 +1,15 @@
 -- The jobs of a pattern: how many they are, and when they arrive.
-use Rattle.std.proofs.Common.{◌≡◌, ℕ, zero, suc, ◌+◌, ◌-◌, ◌*◌, ◌/◌, ◌<◌, ◌≤◌, get_or, drop, take, length, slice_get, Some, List, [], ◌∷◌, ◌++◌, refl, sym, ap, subst, ◌∙◌, inl, inr, ⊎_elim, arith, add-one, drop-cons}
+use Rattle.std.proofs.Common.{◌≡◌, ℕ, zero, suc, ◌+◌, ◌-◌, ◌*◌, ◌/◌, ◌<◌, ◌≤◌, get_or, drop, take, length, slice_get, Option, Some, None, List, [], ◌∷◌, refl, sym, ap, subst, ◌∙◌, inl, inr, ⊎_elim, arith, drop-cons}
 use Rattle.std.proofs.Math.Nat.{div-mul-le_self}
 use Rattle.std.specs.List.{All, sum_by}
+use Rattle.std.specs.Prelude.{IsSomeAnd}
 use Rattle.std.proofs.lemmas.Bool.{cases_eq}
 use Rattle.std.proofs.lemmas.List.{drop_all, take_all}
 use Rattle.std.proofs.lemmas.List.Sums.{sum_by_more, sum_by_more_le}
-use Rattle.std.proofs.lemmas.Option.{get_or_from_slice_get, slice_get-get_or, slice_get_within}
+use Rattle.std.proofs.lemmas.Option.{get_or_from_slice_get, none-some, slice_get-get_or, slice_get_within}
+use Rattle.yt_list.specs.Numbered.{numbered}
 use Rattle.yt_set.specs.declared.task.Task.{Task}
+use Rattle.yt_set.specs.Tasks.{LacksRoom, floor_of}
 use Rattle.yt_log.specs.declared.plan.PlanItem.{PlanItem}
 use Rattle.yt_log.specs.Patterns.{Arrivals, all_arriving, item_before, jobs_arriving}
 use Rattle.yt_log.specs.Tasks.{Has, no_task}
@@ -18,13 +21,6 @@ use Rattle.yt_witness.specs.Inside.Merging.{with_all}
 use Rattle.yt_witness.specs.Witnesses.{IsPatternOf, arrivals_of, horizon, job_count, plan_of}
 use Rattle.yt_witness.proofs.Merging.{job_arrives, sorted_front}
 use Rattle.yt_witness.proofs.Places.{all_at, blocker_at, length_arrivals, of, other_at}
-
-less_one : (n : ℕ) → n + 1 - 1 ≡ n
-less_one n = omega arith
-
--- what has a number has the place before it
-pub placed : (all : List Arrivals) (n : ℕ) (a : Arrivals) → slice_get all (n + 1 - 1) ≡ Some a → slice_get all n ≡ Some a
-placed all n a at = subst (λ (k : ℕ). slice_get all k ≡ Some a) (less_one n) at
 
 -- the jobs of one more task
 pub count_more : (all : List Arrivals) (n : ℕ) (a : Arrivals) (jobs : ℕ) → slice_get all n ≡ Some a → jobs ≡ sum_by (λ x. x.count) (take n all) → jobs + a.count ≡ sum_by (λ x. x.count) (take (n + 1) all)
@@ -62,14 +58,13 @@ pub none_behind : (all : List Arrivals) (n : ℕ) → length all ≤ n → sort_
 none_behind all n le = ap (λ (xs : List Arrivals). sort_by item_before (all_arriving (suc n) xs)) (drop_all n all le)
 
 -- the jobs of a task, and those of the tasks behind it
-pub one_task : (all : List Arrivals) (task : ℕ) (a : Arrivals) (jobs items : List PlanItem) → 1 ≤ task → slice_get all (task - 1) ≡ Some a → jobs ≡ jobs_arriving task a a.count →
+pub one_task : (all : List Arrivals) (task : ℕ) (a : Arrivals) (jobs items : List PlanItem) → numbered all task ≡ Some a → jobs ≡ jobs_arriving task a a.count →
     items ≡ sort_by item_before (all_arriving (suc task) (drop task all)) → with_all jobs items ≡ sort_by item_before (all_arriving (suc (task - 1)) (drop (task - 1) all))
-one_task all zero a jobs items some at its is = absurd (omega arith)
-one_task all (suc k) a jobs items some at its is =
+one_task all zero a jobs items at its is = absurd (none-some a at)
+one_task all (suc k) a jobs items at its is =
     let less : suc k - 1 ≡ k = omega arith in
-    let there = subst (λ (n : ℕ). slice_get all n ≡ Some a) less at in
     subst (λ (n : ℕ). with_all jobs items ≡ sort_by item_before (all_arriving (suc n) (drop n all))) (sym less)
-    (ap (λ (xs : List PlanItem). with_all xs items) its ∙ one_more all k a items there is)
+    (ap (λ (xs : List PlanItem). with_all xs items) its ∙ one_more all k a items at is)
 
 -- the jobs of these arrivals are due by h
 abbrev pub EndBy : ℕ → Arrivals → Type 0
@@ -92,15 +87,22 @@ task_there tasks k lt = slice_get-get_or tasks k no_task lt
 same_arrivals : (xs : List Arrivals) (k : ℕ) (a b : Arrivals) → slice_get xs k ≡ Some a → slice_get xs k ≡ Some b → a ≡ b
 same_arrivals xs k a b p q = let e = sym p ∙ q in cc
 
+-- a span in which a task lacks room isn't empty
+pub lacking_some : (tasks : List Task) (span : ℕ) (task : Task) → LacksRoom tasks span task → 1 ≤ span
+lacking_some tasks span task lacks = some (floor_of tasks task.resource) lacks.0
+  where
+    some : (o : Option ℕ) → IsSomeAnd o (λ floor. floor < span) → 1 ≤ span
+    some None h = absurd h
+    some (Some floor) h = omega arith
+
 ends_by : (tasks : List Task) (pattern : Pattern) → IsPatternOf tasks pattern → (k : ℕ) (a : Arrivals) → slice_get (arrivals_of tasks pattern) k ≡ Some a → EndBy (horizon pattern) a
 ends_by tasks (Everyone upto) is k a at =
     let count = length_arrivals tasks (Everyone upto) in
     let within = slice_get_within (arrivals_of tasks (Everyone upto)) k a at in
     let task = get_or tasks k no_task in
     let there = task_there tasks k (omega arith) in
-    let number : suc k - 1 ≡ k = omega arith in
-    let told = all_at tasks upto (suc k) task (omega arith) (subst (λ (n : ℕ). slice_get tasks n ≡ Some task) (sym number) there) in
-    let same = same_arrivals (arrivals_of tasks (Everyone upto)) k a (of task 0 (upto / task.period)) at (subst (λ (n : ℕ). slice_get (arrivals_of tasks (Everyone upto)) n ≡ Some (of task 0 (upto / task.period))) number told) in
+    let told = all_at tasks upto (suc k) task there in
+    let same = same_arrivals (arrivals_of tasks (Everyone upto)) k a (of task 0 (upto / task.period)) at told in
     let most = div-mul-le_self upto task.period in
     subst (λ (b : Arrivals). EndBy upto b) (sym same) (omega arith)
 ends_by tasks (Blocker i span) is k a at =
@@ -108,17 +110,15 @@ ends_by tasks (Blocker i span) is k a at =
     let within = slice_get_within (arrivals_of tasks (Blocker i span)) k a at in
     let task = get_or tasks k no_task in
     let there = task_there tasks k (omega arith) in
-    let number : suc k - 1 ≡ k = omega arith in
-    let placed = subst (λ (n : ℕ). slice_get tasks n ≡ Some task) (sym number) there in
-    let above = is.above in
+    let some = lacking_some tasks span is.task is.lacks in
     ⊎_elim
     (λ (e : suc k ≡ i).
-    let told = blocker_at tasks i span (suc k) task (omega arith) placed e in
-    let same = same_arrivals (arrivals_of tasks (Blocker i span)) k a (of task 0 1) at (subst (λ (n : ℕ). slice_get (arrivals_of tasks (Blocker i span)) n ≡ Some (of task 0 1)) number told) in
+    let told = blocker_at tasks i span (suc k) task there e in
+    let same = same_arrivals (arrivals_of tasks (Blocker i span)) k a (of task 0 1) at told in
     subst (λ (b : Arrivals). EndBy span b) (sym same) (omega arith))
     (λ (ne : suc k ≡ i → ⊥).
-    let told = other_at tasks i span (suc k) task (omega arith) placed ne in
-    let same = same_arrivals (arrivals_of tasks (Blocker i span)) k a (of task 1 ((span - 1) / task.period)) at (subst (λ (n : ℕ). slice_get (arrivals_of tasks (Blocker i span)) n ≡ Some (of task 1 ((span - 1) / task.period))) number told) in
+    let told = other_at tasks i span (suc k) task there ne in
+    let same = same_arrivals (arrivals_of tasks (Blocker i span)) k a (of task 1 ((span - 1) / task.period)) at told in
     let most = div-mul-le_self (span - 1) task.period in
     subst (λ (b : Arrivals). EndBy span b) (sym same) (omega arith))
     (cases_eq (suc k) i)

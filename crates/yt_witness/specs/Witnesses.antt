@@ -1,14 +1,14 @@
 -- The patterns that show that a set doesn't fit, and what each stands for.
-use Rattle.std.specs.Prelude.{◌≡◌, ℕ, ◌+◌, ◌-◌, ◌<◌, ◌≤◌, List, length, Option, Some, None}
+use Rattle.std.specs.Prelude.{◌≡◌, ℕ, ◌≤◌, List, Option, Some, None}
 use Rattle.std.specs.List.{sum_by}
+use Rattle.yt_list.specs.Numbered.{numbered}
 use Rattle.yt_set.specs.declared.task.Task.{Task}
 use Rattle.yt_set.specs.Limits.{most_ticks}
-use Rattle.yt_set.specs.Tasks.{FitsLoad, within, floor_of, demand_bound, hyperperiod}
-use Rattle.yt_fits.specs.Loads.{most_multiple}
+use Rattle.yt_set.specs.Tasks.{FitsLoad, LacksRoom, hyperperiod}
+use Rattle.yt_fits.specs.Loads.{hyperperiod_limit, most_multiple}
 use Rattle.yt_fits.specs.declared.unfit.Unfit.{Unfit}
 use Rattle.yt_fits.specs.declared.unfit.Unfit.TheVariants.{Hyperperiod, Overload, Interval}
 use Rattle.yt_log.specs.declared.plan.PlanItem.{PlanItem}
-use Rattle.yt_log.specs.Tasks.{task_of}
 use Rattle.yt_log.specs.Patterns.{Arrivals, all_tasks, blocker, pattern_plan}
 use Rattle.yt_witness.specs.declared.arrivals.Arrivals as told
 use Rattle.yt_witness.specs.declared.pattern.Pattern.{Pattern}
@@ -29,19 +29,15 @@ IsWide (Hyperperiod task) = Unit {0}
 IsWide (Overload sum) = ⊥
 IsWide (Interval breach) = ⊥
 
--- in a span of so many ticks, a job of the task that keeps its resource leaves too little room for others
+-- in a span of so many ticks, the task of a number lacks room: a job of it that keeps its resource leaves too little for others
 pub record Blocks (tasks : List Task) (i span : ℕ) : Type 0 where
-  pub positive : 1 ≤ i
-  pub in_set : i ≤ length tasks
-  pub floor : ℕ
-  pub least : floor_of tasks (task_of tasks i).resource ≡ Some floor
-  pub above : floor < span
-  pub below : span < within (task_of tasks i)
-  pub over : span < (task_of tasks i).cost + demand_bound tasks (span - 1)
+  pub task : Task
+  pub there : numbered tasks i ≡ Some task
+  pub lacks : LacksRoom tasks span task
 
 -- the pattern is one of the set's: that of all tasks has the hyperperiod, which is not too great, and the load doesn't fit; that of a blocker has a span in which its task leaves too little room
 abbrev pub IsPatternOf : List Task → Pattern → Type 0
-IsPatternOf tasks (All upto) = (upto ≡ hyperperiod tasks) × (upto ≤ most_multiple) × (FitsLoad tasks → ⊥)
+IsPatternOf tasks (All upto) = (upto ≡ hyperperiod tasks) × (upto ≤ hyperperiod_limit tasks) × (FitsLoad tasks → ⊥)
 IsPatternOf tasks (Blocker task upto) = Blocks tasks task upto
 
 -- what a pattern stands for: the arrivals of each task, in order of the tasks
@@ -78,7 +74,11 @@ pub record IsShort (tasks : List Task) (pattern : Pattern) : Type 0 where
   pub early : horizon pattern ≤ MOST_HORIZON
   pub few : job_count tasks pattern ≤ MOST_JOBS
 
--- why the plan isn't made: the pattern isn't short, with its horizon and how many jobs it has; or memory ran out
+-- the pattern is too long for its plan to be made
+abbrev pub IsTooLong : List Task → Pattern → Type 0
+IsTooLong tasks pattern = IsShort tasks pattern → ⊥
+
+-- why the plan isn't made: the pattern is too long, with its horizon and how many jobs it has; or memory ran out
 abbrev pub IsFaultOf : List Task → Pattern → PatternFault → Type 0
-IsFaultOf tasks pattern (Long upto jobs) = (upto ≡ horizon pattern) × (jobs ≡ job_count tasks pattern) × (IsShort tasks pattern → ⊥)
+IsFaultOf tasks pattern (Long upto jobs) = (upto ≡ horizon pattern) × (jobs ≡ job_count tasks pattern) × IsTooLong tasks pattern
 IsFaultOf tasks pattern Memory = IsShort tasks pattern

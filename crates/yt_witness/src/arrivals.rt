@@ -1,5 +1,6 @@
 //! When the jobs of one task arrive in a pattern.
-ghost use Rattle.std.specs.Prelude.{◌≡◌, ◌-◌, ◌≤◌, length, slice_get, Some};
+ghost use Rattle.std.specs.Prelude.{◌≡◌, ◌≤◌, length, Some};
+ghost use Rattle.yt_list.specs.Numbered.{numbered};
 ghost use Rattle.yt_witness.specs.Witnesses.{AreInRange, IsPatternOf, arrivals_of, as_arrivals};
 
 use crate::pattern::Pattern;
@@ -24,7 +25,7 @@ pub fn arrive(set: &TaskSet, pattern: &Pattern, task: u32) -> Arrivals
     requires its_pattern { IsPatternOf set.now pattern.now }
     requires positive { 1 ≤ task }
     requires within { task ≤ length set.now }
-    ensures arrivals { slice_get (arrivals_of set.now pattern.now) (task - 1) ≡ Some (as_arrivals result) }
+    ensures arrivals { numbered (arrivals_of set.now pattern.now) task ≡ Some (as_arrivals result) }
     ensures in_range { AreInRange (as_arrivals result) }
 {
     let its = set.task(task);

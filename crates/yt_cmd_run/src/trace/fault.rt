@@ -1,10 +1,10 @@
 //! Where a trace breaks the period of its input.
 ghost use Rattle.std.specs.Prelude.{◌≡◌, ◌≤◌, ◌<◌, ◌+◌, ◌^◌, All, length};
 ghost use Rattle.yt_graph.specs.Limits.{most_period};
-ghost use Rattle.yt_serial.specs.Limits.{most_time, most_trace};
+ghost use Rattle.yt_trace.specs.Limits.{most_time, most_trace};
 ghost use Rattle.yt_cmd_run.specs.TraceText.{fault_in, fault_of};
 
-use yt_serial::Message;
+use yt_trace::Message;
 
 /// How a line of a trace breaks the period of the input. Lines are numbered from 1.
 #[derive(Clone, Copy, Debug, PartialEq, Eq)]

@@ -49,6 +49,6 @@ pub record IsPlaying (tasks : List Task) (plan : List PlanItem) (moment : Moment
   pub room : length plan ≤ moment.spare + next
   pub later : (item : PlanItem) → Has (drop next plan) item → moment.clock ≤ item.arrival
 
--- the count of a job is there
-abbrev pub IsThere : List (List Count) → Job → Type 0
-IsThere rows job = (job.task < length rows) × (job.number < length (slice_index_or rows job.task []))
+-- the rows have a count of a job
+abbrev pub HasCount : List (List Count) → Job → Type 0
+HasCount rows job = (job.task < length rows) × (job.number < length (slice_index_or rows job.task []))

@@ -1,5 +1,6 @@
 -- The last job of each task, and which item may come next.
-use Rattle.std.specs.Prelude.{◌≡◌, ℕ, ◌+◌, ◌-◌, ◌≤◌, ◌==◌, ◌&&◌, ◌||◌, nat_le, Bool, List, length, Some, slice_get}
+use Rattle.std.specs.Prelude.{◌≡◌, ℕ, ◌+◌, ◌-◌, ◌≤◌, ◌==◌, ◌&&◌, ◌||◌, nat_le, Bool, List, length, Some}
+use Rattle.yt_list.specs.Numbered.{numbered}
 use Rattle.yt_set.specs.Limits.{most_tasks}
 use Rattle.yt_set.specs.declared.task.Task.{Task}
 use Rattle.yt_log.specs.declared.plan.PlanItem.{PlanItem}
@@ -10,7 +11,7 @@ use Rattle.yt_log.specs.LastJobs.{last_job}
 
 -- these are the last jobs of as many tasks as a set may have
 abbrev pub AreLast : List LastJob → List PlanItem → Type 0
-AreLast jobs before = (task : ℕ) → 1 ≤ task → task ≤ most_tasks → slice_get jobs (task - 1) ≡ Some (last_job task before)
+AreLast jobs before = (task : ℕ) → 1 ≤ task → task ≤ most_tasks → numbered jobs task ≡ Some (last_job task before)
 
 -- an item of a task may follow the task's last job: it has the next number, comes a period later or more, and costs what a job of the task may cost; and its arrival is one that a plan may have
 abbrev pub may_follow : Task → LastJob → PlanItem → Bool

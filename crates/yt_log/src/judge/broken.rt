@@ -1,5 +1,5 @@
 //! The first tick at which a log breaks a rule.
-#![tactic(auto, using(crate::proofs::Places::task_read), unfolding(crate::specs::Inside::Heads::item_at, crate::specs::Inside::Heads::head_at))]
+#![tactic(auto, using(crate::proofs::Demands::task_read), unfolding(crate::specs::Inside::Heads::item_at, crate::specs::Inside::Heads::head_at))]
 
 ghost use Rattle.std.specs.Prelude.{◌≡◌, ◌↔◌, ℕ, ◌<◌, ◌≤◌, length, IfErr, IfNone, IfOk, IfSome, IsFalse, IsNone, IsTrue, None, Some};
 ghost use Rattle.std.specs.List.{All};

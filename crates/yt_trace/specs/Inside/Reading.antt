@@ -1,5 +1,5 @@
 -- What the lines so far say, and what may come next.
-use Rattle.std.specs.Prelude.{◌≡◌, ℕ, ◌-◌, ◌<◌, ◌≤◌, List, length, slice_get, Option, Some, Result, Ok, Err, IsSomeAnd, All}
+use Rattle.std.specs.Prelude.{◌≡◌, ℕ, ◌<◌, ◌≤◌, List, length, Option, Some, Result, Ok, Err, IsSomeAnd, All}
 use Rattle.yt_graph.specs.declared.graph.Input.{Input}
 use Rattle.yt_graph.specs.Limits.{most_inputs, most_period}
 use Rattle.yt_graph.specs.Inputs.{period_in}
@@ -26,7 +26,7 @@ judged_so_far read fields = so_far read.inputs (judged read.inputs read.trace fi
 
 -- these are the times of the last messages of as many inputs as a graph may have
 abbrev pub AreLast : List (Option ℕ) → List Message → Type 0
-AreLast times trace = (input : ℕ) → 1 ≤ input → input ≤ most_inputs → slice_get times (input - 1) ≡ Some (last_time input trace)
+AreLast times trace = (input : ℕ) → 1 ≤ input → input ≤ most_inputs → numbered times input ≡ Some (last_time input trace)
 
 -- a tick is no later than a last one, which is there
 abbrev pub IsBy : ℕ → Option ℕ → Type 0

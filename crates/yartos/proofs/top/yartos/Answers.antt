@@ -6,8 +6,9 @@ use Rattle.yt_io.specs.Sink.{AddsFront, add}
 use Rattle.yartos.specs.Answer.{IfVerdict}
 use Rattle.yartos.specs.Causes.{usage_line}
 use Rattle.yartos.specs.FileCauses.{long_line}
-use Rattle.yartos.specs.Reads.{IsFirstLong}
-use Rattle.yartos.specs.Words.{IsNotBuilt, command_found, demo, files_of, judges, misuse, request_of, texts}
+use Rattle.yartos.specs.Words.{IsNotBuilt, demo, files_of, judges, misuse, request_of, texts}
+use Rattle.yartos.specs.Inside.Found.{command_found}
+use Rattle.yartos.specs.Inside.LongFiles.{IsFirstLong}
 use Rattle.yartos.proofs.Commands.{first_long}
 use Rattle.yartos.proofs.Requests.{due_is_called, not_built_due}
 use Rattle.yartos.proofs.Told.{due_for, no_write_fault, or_no_memory, told_whole}

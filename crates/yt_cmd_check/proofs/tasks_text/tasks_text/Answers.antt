@@ -7,13 +7,14 @@ use Rattle.yt_list.specs.Numbered.{numbered_or}
 use Rattle.yt_graph.specs.Labels.{labels_of}
 use Rattle.yt_cmd_check.specs.TaskLines.{named_tasks}
 use Rattle.yt_cmd_check.proofs.ShownTasks.{group_none, group_short, label_short, resource_there}
-use Rattle.yt_cmd_check.proofs.LineLemmas.{named_at, placed, task_more}
+use Rattle.yt_cmd_check.proofs.LineLemmas.{placed, task_more}
 use Rattle.yt_cmd_check.proofs.tasks_text.tasks_text.Goals as goal
 
 pub put_task-requires-clause-label : goal.put_task-requires-clause-label
 put_task-requires-clause-label c =
-    let at = subst (λ (ls : List (List ℕ)). slice_get ls c.loop-n.n ≡ Some c.at.result.now) c.in_ok-labels.ensures c.at.ensures.get in
-    subst (λ l. length l ≤ 65) (sym c.as_slice.ensures) (label_short (graph_tree c.args.graph.now) c.loop-n.n c.at.result.now c.requires.well_formed at)
+    let graph = graph_tree c.args.graph.now in
+    let label = c.task_label.ensures ∙ ap (λ (ls : List (List ℕ)). numbered_or ls (c.loop-n.n + 1) []) (c.as_slice.ensures ∙ c.in_ok-labels.ensures) in
+    subst (λ l. length l ≤ 65) (sym label) (label_short graph (c.loop-n.n + 1) c.requires.well_formed)
 
 pub put_task-requires-clause-group : goal.put_task-requires-clause-group
 put_task-requires-clause-group c =
@@ -33,8 +34,8 @@ pub loop-n-preserved : goal.loop-n-preserved
 loop-n-preserved c =
     let graph = graph_tree c.args.graph.now in
     let at = placed c.args.set.now c.loop-n.n c.task-task.result c.task-task.ensures.value in
-    let label_at = subst (λ (ls : List (List ℕ)). slice_get ls c.loop-n.n ≡ Some c.at.result.now) c.in_ok-labels.ensures c.at.ensures.get in
-    let label : c.as_slice.result.now ≡ numbered_or (labels_of graph) (c.loop-n.n + 1) [] = c.as_slice.ensures ∙ named_at (labels_of graph) c.loop-n.n c.at.result.now label_at in
+    let label : c.task_label.result.now ≡ numbered_or (labels_of graph) (c.loop-n.n + 1) [] =
+    c.task_label.ensures ∙ ap (λ (ls : List (List ℕ)). numbered_or ls (c.loop-n.n + 1) []) (c.as_slice.ensures ∙ c.in_ok-labels.ensures) in
     let line : c.bytes.result.now ≡ task_line (numbered_or (labels_of graph) (c.loop-n.n + 1) []) c.task-task.result (numbered_or graph.groups c.task-task.result.resource []) =
     c.bytes.ensures.value ∙ c.put_task.ensures
     ∙ ap (λ l. task_line l c.task-task.result c.group_name.result.now) label

@@ -5,12 +5,14 @@ use Rattle.std.specs.List.{All}
 use Rattle.yt_answer.specs.declared.answer.Answer.{Answer}
 use Rattle.yt_graph.specs.AstPicture.{ast_tree}
 use Rattle.yt_graph.specs.Picture.{graph_tree}
-use Rattle.yt_run.specs.First.{the_period}
+use Rattle.yt_run.specs.First.{KeepsPeriod, the_period}
 use Rattle.yt_run.specs.RunText.{read_back, run_text}
+use Rattle.yt_serial.specs.Told.{IsPromisedRun}
+use Rattle.yt_trace.specs.Limits.{most_time, most_trace}
 use Rattle.yt_cmd_run.specs.Runs.{IsNotRunYet, input_name}
 use Rattle.yt_cmd_run.specs.TraceText.{IsTraceText, fault_in}
 use Rattle.yt_cmd_run.proofs.Runs.{fault_due, fits_first, legal_due, name_by, not_run_due, period_by, readable_names}
-use Rattle.yt_cmd_run.proofs.TracePeriod.{few_messages, times_fit, keeps_period}
+use Rattle.yt_cmd_run.proofs.TracePeriod.{few_messages, times_fit, keeps_period, text_is_trace}
 use Rattle.yt_cmd_run.proofs.run.trace_answer.Goals as goal
 
 pub returns-then-not-is_first : goal.returns-then-not-is_first
@@ -30,12 +32,12 @@ returns-in_default c =
 pub first_fault-requires-clause-few : goal.first_fault-requires-clause-few
 first_fault-requires-clause-few c =
     let traced = rw c.in-Some.is at c.in_ok-messages.ensures in
-    subst (λ ms. length ms ≤ 200000) (sym c.as_slice-2.ensures) (few_messages c.args.trace.now c.as_slice.result.now c.in-Some.messages traced)
+    subst (λ ms. length ms ≤ most_trace) (sym c.as_slice-2.ensures) (few_messages c.args.trace.now c.as_slice.result.now c.in-Some.messages traced)
 
 pub first_fault-requires-clause-times : goal.first_fault-requires-clause-times
 first_fault-requires-clause-times c =
     let traced = rw c.in-Some.is at c.in_ok-messages.ensures in
-    subst (λ ms. All (λ message. message.time ≤ 4000000) ms) (sym c.as_slice-2.ensures) (times_fit c.args.trace.now c.as_slice.result.now c.in-Some.messages traced)
+    subst (λ ms. All (λ message. message.time ≤ most_time) ms) (sym c.as_slice-2.ensures) (times_fit c.args.trace.now c.as_slice.result.now c.in-Some.messages traced)
 
 pub returns-in-Some-first_fault : goal.returns-in-Some-first_fault
 returns-in-Some-first_fault c =
@@ -54,6 +56,13 @@ run_first-requires-clause-fits c =
     let yes : IsTrue c.is_first.result = search rules in
     fits_first (graph_tree c.args.graph.now) (c.is_first.ensures.0 yes).1 c.requires.fits.loads
 
+pub from_items-requires : goal.from_items-requires
+from_items-requires c =
+    let traced = rw c.in-Some.is at c.in_ok-messages.ensures in
+    let none : fault_in c.at-input.result.now.period c.in-Some.messages ≡ None =
+    ap (fault_in c.at-input.result.now.period) (sym c.as_slice-2.ensures) ∙ sym c.first_fault.ensures ∙ c.in_default-first_fault.is in
+    text_is_trace c.at-input.result.now.period c.args.trace.now c.as_slice.result.now c.in-Some.messages traced none
+
 pub run_first-requires-clause-keeps : goal.run_first-requires-clause-keeps
 run_first-requires-clause-keeps c =
     let g = graph_tree c.args.graph.now in
@@ -62,7 +71,7 @@ run_first-requires-clause-keeps c =
     let period : the_period g ≡ c.at-input.result.now.period = period_by g c.at-input.result.now (c.is_first.ensures.0 yes).1 c.at-input.ensures.get in
     let none : fault_in (the_period g) c.in-Some.messages ≡ None =
     ap (λ p. fault_in p c.in-Some.messages) period ∙ ap (fault_in c.at-input.result.now.period) (sym c.as_slice-2.ensures) ∙ sym c.first_fault.ensures ∙ c.in_default-first_fault.is in
-    keeps_period g c.args.trace.now c.as_slice.result.now c.in-Some.messages traced none
+    subst (KeepsPeriod g) (sym c.from_items.ensures) (keeps_period g c.args.trace.now c.as_slice.result.now c.in-Some.messages traced none)
 
 pub returns : goal.returns
 returns c =
@@ -81,5 +90,5 @@ returns c =
       lines = c.in_ok-told.told.outs;
       told = ap (read_back g) printed ∙ c.in_ok-told.ensures.read_back (readable_names g runs.1 c.requires.well_formed);
       printed = printed;
-      promised = c.in_ok-told.ensures.promised;
+      promised = subst (λ messages. IsPromisedRun g messages c.in_ok-told.told.log c.in_ok-told.told.outs) c.from_items.ensures c.in_ok-told.ensures.promised;
     })

@@ -23,8 +23,8 @@ returns-in_err-time-2 c = rw c.from_residual-in_err-time-2.ensures (λ time valu
     let fields = fields_of_message c.args.input.now c.args.line.now _ _ _ _ time value c.requires c.in_ok-time.ensures c.in_ok-name.ensures soon is in
     c.in_err-time-2.ensures time (omega arith) fields.timed)
 
-pub returns-then-time-gt-LAST_TICK : goal.returns-then-time-gt-LAST_TICK
-returns-then-time-gt-LAST_TICK c = λ time value soon fits is.
+pub returns-then-time-gt-MOST_TIME : goal.returns-then-time-gt-MOST_TIME
+returns-then-time-gt-MOST_TIME c = λ time value soon fits is.
     let fields = fields_of_message c.args.input.now c.args.line.now _ _ _ _ time value c.requires c.in_ok-time.ensures c.in_ok-name.ensures soon is in
     let same = decimal_injective c.in_ok-time-2.time time (omega arith) (omega arith) (sym c.in_ok-time-2.ensures ∙ fields.timed) in
     omega (arith, same)
@@ -39,4 +39,4 @@ returns c =
     let fits : FitsSigned w64 c.in_ok-signed_number.field-0 = search rules in
     let name = agree c.in_ok-name.name.now c.args.input.now c.if-ne.ensures in
     let line = message_of_fields c.args.input.now c.args.line.now _ _ _ _ c.in_ok-time-2.time c.in_ok-signed_number.field-0 c.in_ok-time.ensures c.in_ok-name.ensures (record { timed = c.in_ok-time-2.ensures; named = name; valued = c.in_ok-signed_number.ensures }) in
-    (c.if-time-gt-LAST_TICK.false, rw to_z-of_z line)
+    (c.if-time-gt-MOST_TIME.false, rw to_z-of_z line)

@@ -2,7 +2,7 @@ use Rattle.std.proofs.Common.{◌≡◌, ℕ, List, refl, subst, ◌≤◌}
 use Rattle.std.specs.Prelude.{IfOk, codes}
 use Rattle.yt_answer.specs.declared.verdict.Verdict.TheVariants.{Done}
 use Rattle.yt_answer.proofs.Lemmas.{due_result}
-use Rattle.yt_fits.specs.Loads.{most_multiple}
+use Rattle.yt_fits.specs.Loads.{hyperperiod_limit}
 use Rattle.yt_fits.specs.Unfits.{IsReason}
 use Rattle.yt_fitting.specs.Loads.{IsUnfitText, fits}
 use Rattle.yt_fitting.specs.TaskText.{accepted_text}
@@ -16,7 +16,7 @@ pub returns-in-Ok : goal.returns-in-Ok
 returns-in-Ok c =
     let named = c.args.named.now in
     let is = c.set-set.ensures.set in
-    let narrow = subst (λ ts. hyperperiod ts ≤ most_multiple) is c.in-Ok.ensures.narrow in
+    let narrow = subst (λ ts. hyperperiod ts ≤ hyperperiod_limit ts) is c.in-Ok.ensures.narrow in
     let room = subst (λ (ts : List Task). Fits ts) is c.in-Ok.ensures.fits in
     let shown = subst (λ (ts : List Task). IfOk c.accepted_answer.result (λ a. a ≡ record { verdict = Done; text = accepted_text ts })) is c.accepted_answer.ensures in
     due_result (fit_verdict named) (IsFitText named) (fits narrow room tt) c.accepted_answer.result Done (accepted_text named.tasks) shown refl refl

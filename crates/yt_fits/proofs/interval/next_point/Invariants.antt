@@ -1,5 +1,5 @@
 use Rattle.std.proofs.Common.{◌<◌, ◌≤◌, take}
-use Rattle.yt_fits.proofs.IntervalLemmas.{IsBeforeNext}
+use Rattle.yt_fits.specs.Inside.Streams.{IsBeforeNext}
 use Rattle.yt_fits.proofs.interval.next_point.Given as goal
 
 abbrev pub invariant-loop-n : goal.invariant-loop-n

@@ -8,7 +8,7 @@ pub loop-n-preserved : goal.loop-n-preserved
 loop-n-preserved c =
     let all = arrivals_of c.args.set.now c.args.pattern.now in
     let at = placed all c.loop-n.n (as_arrivals c.arrive.result) c.arrive.ensures.arrivals in
-    arrive_more c.args.labels.now c.loop-n.n all (as_arrivals c.arrive.result) c.label_of.result.now c.loop-n.text c.put_arrival.new.text at c.label_of.ensures c.in_ok-put_arrival.ensures ∙ c.loop-n.invariant
+    arrive_more c.args.labels.now c.loop-n.n all (as_arrivals c.arrive.result) c.task_label.result.now c.loop-n.text c.put_arrival.new.text at c.task_label.ensures c.in_ok-put_arrival.ensures ∙ c.loop-n.invariant
 
 pub returns : goal.returns
 returns c =

@@ -1,7 +1,7 @@
 use Rattle.std.proofs.Common.{◌-◌, ◌++◌, length, List, Option}
 use Rattle.yt_lexer.specs.declared.token.Token.{Token}
 use Rattle.yt_lexer.specs.declared.token.LexFault.{LexFault}
-use Rattle.yt_lexer.specs.Places.{IsSpot}
+use Rattle.yt_lexer.specs.Inside.Spots.{IsSpot}
 use Rattle.yt_lexer.specs.Lexes.{Lexes}
 use Rattle.yt_lexer.proofs.lexing.lex.Given as goal
 

@@ -1,7 +1,7 @@
 use Rattle.std.proofs.Common.{◌≡◌, ◌++◌, drop, length}
 use Rattle.yt_graph.specs.Picture.{exprs_tree}
 use Rattle.yt_graph.specs.Meaning.{all_values}
-use Rattle.yt_mean.specs.Within.{AreExprsWithin}
+use Rattle.yt_mean.specs.Inside.Within.{AreExprsWithin}
 use Rattle.yt_mean.proofs.value.values.Given as goal
 
 abbrev pub invariant-loop-e : goal.invariant-loop-e

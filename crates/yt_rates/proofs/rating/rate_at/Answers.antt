@@ -3,7 +3,7 @@ use Rattle.std.proofs.lemmas.List.{length-map}
 use Rattle.std.proofs.lemmas.Result.{err_from_is_err_and}
 use Rattle.yt_graph.specs.Picture.{graph_tree, port_tree}
 use Rattle.yt_rates.specs.Rates.{distance_of}
-use Rattle.yt_rates.specs.Tables.{AreRated}
+use Rattle.yt_rates.specs.Inside.Rating.{AreRated}
 use Rattle.yt_rates.proofs.Lists.{item_at}
 use Rattle.yt_rates.proofs.Rated.{distance_is, lower, at_other, at_fine, at_fault, step_other, step_one, next_distance}
 use Rattle.yt_rates.proofs.rating.rate_at.Goals as goal

@@ -1,7 +1,7 @@
 use Rattle.std.proofs.Common.{◌≡◌, ◌+◌, drop}
 use Rattle.yt_graph.specs.Picture.{graph_tree}
 use Rattle.yt_rates.specs.Faults.{fault_at}
-use Rattle.yt_rates.specs.Tables.{AreRated}
+use Rattle.yt_rates.specs.Inside.Rating.{AreRated}
 use Rattle.yt_rates.proofs.rating.rate_at.Given as goal
 
 abbrev pub invariant-loop-place : goal.invariant-loop-place

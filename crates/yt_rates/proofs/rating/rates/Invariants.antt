@@ -1,7 +1,7 @@
 use Rattle.std.proofs.Common.{◌≡◌, ◌+◌, length, ℕ}
 use Rattle.yt_graph.specs.Picture.{graph_tree}
 use Rattle.yt_rates.specs.Faults.{fault_from, rate_fault}
-use Rattle.yt_rates.specs.Tables.{AreRated}
+use Rattle.yt_rates.specs.Inside.Rating.{AreRated}
 use Rattle.yt_rates.proofs.rating.rates.Given as goal
 
 -- so many distances are left

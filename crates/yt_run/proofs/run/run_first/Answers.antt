@@ -10,7 +10,7 @@ use Rattle.yt_run.proofs.run.run_first.Goals as goal
 
 pub loop-i-init : goal.loop-i-init
 loop-i-init c = record {
-  under_way = begins_at _ _ _ _ c.args.trace.now _ _ _ c.requires.keeps c.first_period-period.ensures.period c.as_slice-message-items.ensures c.new-log.ensures c.new-outs.ensures;
+  under_way = begins_at _ _ _ _ c.args.trace.now _ _ _ c.requires.keeps c.first_period-period.ensures.period c.messages-message-items.ensures.messages c.new-log.ensures c.new-outs.ensures;
   readable = subst (All (IsReadableLine 1)) (sym c.new-outs.ensures) (All-nil (IsReadableLine 1));
 }
 
@@ -20,7 +20,7 @@ out_line-requires-clause-sum c = (sent_is_sum _ _ _ c.requires.first c.first_por
 pub loop-i-preserved : goal.loop-i-preserved
 loop-i-preserved c =
     let most : c.first_cost-cost.result ≤ c.first_period-period.result = omega (arith, c.requires.fits, c.first_cost-cost.ensures.cost, c.first_period-period.ensures.period) in
-    let next = goes_on_at _ _ _ c.as_slice-message-items.result.now c.message-item.result c.loop-i.i c.loop-i.log c.tell_idle.new.self _ c.loop-i.outs _ _ c.loop-i.end
+    let next = goes_on_at _ _ _ c.messages-message-items.result.now c.message-item.result c.loop-i.i c.loop-i.log c.tell_idle.new.self _ c.loop-i.outs _ _ c.loop-i.end
     most c.first_period-period.ensures.most c.loop-i-test.true c.message-item.is c.loop-i.invariant.under_way c.tell_idle.ensures c.in_ok-tell_run.ensures.ok c.in_ok-push.ensures.ok c.in_ok-out_line.ensures.line in
     let soon_end = next.soon in
     let soon : c.message-item.result.time + c.first_period-period.result < 2 ^ 63 = omega arith in
@@ -29,9 +29,9 @@ loop-i-preserved c =
 pub returns-clause-promised : goal.returns-clause-promised
 returns-clause-promised c =
     ends_at_last _ _ _ _ _ c.args.trace.now _ c.loop-i.i c.loop-i.log _ _ c.loop-i.end c.requires.first c.requires.fits c.requires.keeps
-    c.first_cost-cost.ensures.cost c.first_period-period.ensures.period c.first_port.ensures c.sent_sum-sum.ensures c.as_slice-message-items.ensures c.loop-i-test.false c.loop-i.invariant.under_way c.tell_idle-2.ensures
+    c.first_cost-cost.ensures.cost c.first_period-period.ensures.period c.first_port.ensures c.sent_sum-sum.ensures c.messages-message-items.ensures.messages c.loop-i-test.false c.loop-i.invariant.under_way c.tell_idle-2.ensures
 
 pub returns-clause-read_back : goal.returns-clause-read_back
 returns-clause-read_back c = λ names.
     ends_readable _ _ _ _ c.args.trace.now _ c.loop-i.i c.loop-i.log _ _ c.loop-i.end c.requires.first c.requires.fits c.requires.keeps
-    c.first_cost-cost.ensures.cost c.first_period-period.ensures.period c.as_slice-message-items.ensures c.loop-i-test.false c.loop-i.invariant.under_way c.tell_idle-2.ensures c.loop-i.invariant.readable names
+    c.first_cost-cost.ensures.cost c.first_period-period.ensures.period c.messages-message-items.ensures.messages c.loop-i-test.false c.loop-i.invariant.under_way c.tell_idle-2.ensures c.loop-i.invariant.readable names

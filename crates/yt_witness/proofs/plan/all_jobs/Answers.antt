@@ -1,7 +1,7 @@
-use Rattle.std.proofs.Common.{◌≡◌, ◌-◌, ◌≤◌, List, ap, ap₂, length, subst, sym, ◌∙◌, arith}
+use Rattle.std.proofs.Common.{◌-◌, ◌≤◌, List, length, subst, sym, ◌∙◌, arith}
 use Rattle.yt_log.specs.declared.plan.PlanItem.{PlanItem}
-use Rattle.yt_log.specs.Patterns.{jobs_arriving}
-use Rattle.yt_witness.specs.Inside.Merging.{AreSpread, with_all}
+use Rattle.yt_list.proofs.Lemmas.{numbered_there}
+use Rattle.yt_witness.specs.Inside.Merging.{AreSpread}
 use Rattle.yt_witness.specs.Witnesses.{arrivals_of, as_arrivals}
 use Rattle.yt_witness.proofs.Merging.{jobs_spread}
 use Rattle.yt_witness.proofs.Places.{length_arrivals}
@@ -17,7 +17,7 @@ loop-task-init c =
 
 pub jobs_of-requires-clause-few : goal.jobs_of-requires-clause-few
 jobs_of-requires-clause-few c =
-    let one = one_of_all c.args.set.now c.args.pattern.now (c.loop-task.task - 1) (as_arrivals c.arrive.result) c.arrive.ensures.arrivals in
+    let one = one_of_all c.args.set.now c.args.pattern.now (c.loop-task.task - 1) (as_arrivals c.arrive.result) (numbered_there (arrivals_of c.args.set.now c.args.pattern.now) c.loop-task.task (as_arrivals c.arrive.result) c.arrive.ensures.arrivals).1 in
     let few = c.requires.short.few in
     omega arith
 
@@ -35,5 +35,5 @@ loop-task-preserved c =
     record {
       within = omega arith;
       jobs = c.in_ok-items.ensures
-          ∙ one_task all c.loop-task.task a c.deref.result.now c.deref-in-loop-task.result.now (omega arith) c.arrive.ensures.arrivals jobs items;
+          ∙ one_task all c.loop-task.task a c.deref.result.now c.deref-in-loop-task.result.now c.arrive.ensures.arrivals jobs items;
     }

@@ -1,7 +1,8 @@
-use Rattle.std.proofs.Common.{◌≤◌, length, arith}
+use Rattle.std.proofs.Common.{◌≤◌, length, sym, ◌∙◌, arith}
+use Rattle.yt_list.proofs.Lemmas.{numbered_next}
 use Rattle.yt_witness.specs.Witnesses.{arrivals_of, as_arrivals}
 use Rattle.yt_witness.proofs.Places.{length_arrivals}
-use Rattle.yt_witness.proofs.Plans.{count_all, count_more, placed}
+use Rattle.yt_witness.proofs.Plans.{count_all, count_more}
 use Rattle.yt_witness.proofs.plan.job_count.Goals as goal
 
 pub loop-n-preserved : goal.loop-n-preserved
@@ -10,7 +11,7 @@ loop-n-preserved c =
     let a = as_arrivals c.arrive-jobs.result in
     let most = c.arrive-jobs.ensures.in_range.count in
     record {
-      jobs = count_more all c.loop-n.n a c.loop-n.jobs (placed all c.loop-n.n a c.arrive-jobs.ensures.arrivals) c.loop-n.invariant.jobs;
+      jobs = count_more all c.loop-n.n a c.loop-n.jobs (sym (numbered_next all c.loop-n.n) ∙ c.arrive-jobs.ensures.arrivals) c.loop-n.invariant.jobs;
       few = omega arith;
     }
 

@@ -1,6 +1,6 @@
-use Rattle.std.proofs.Common.{◌≤◌, subst, arith}
+use Rattle.std.proofs.Common.{◌≤◌, sym, subst, arith}
 use Rattle.yt_set.specs.declared.task.Task.{Task}
-use Rattle.yt_log.proofs.LastItems.{task_at}
+use Rattle.yt_log.proofs.Demands.{task_read}
 use Rattle.yt_log.proofs.PlanJudging.{comes_by_tests}
 use Rattle.yt_log.proofs.last_jobs.LastJobs.may_come.Goals as goal
 
@@ -12,4 +12,4 @@ returns-clause-answer c = λ before are.
 pub returns-clause-positive : goal.returns-clause-positive
 returns-clause-positive c = λ t.
     let P : Task → Type 0 = λ its. 1 ≤ its.period in
-    subst P (task_at c.args.set.now c.args.item.job.task c.task.result (omega arith) c.task.ensures.value) c.task.ensures.in_range.2
+    subst P (sym (task_read c.args.set.now c.args.item.job.task c.task.result c.task.ensures.value)) c.task.ensures.in_range.2

@@ -4,7 +4,7 @@ use Rattle.yt_graph.specs.Meaning.{expr_ticks, spend}
 use Rattle.yt_graph.specs.Cost.{stmt_cost}
 use Rattle.yt_graph.specs.Parts.{block_weight}
 use Rattle.yt_graph.proofs.Lemmas.{block_ticks}
-use Rattle.yt_mean.specs.Progress.{run_of, after}
+use Rattle.yt_mean.specs.Inside.Progress.{run_of, after}
 use Rattle.yt_mean.proofs.Turns.{front, next_within, next_room, next_run, turn_within, turn_room, turn_goes, turn_spends}
 use Rattle.yt_mean.proofs.walk.Walk.+walk.Goals as goal
 

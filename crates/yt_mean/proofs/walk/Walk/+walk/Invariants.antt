@@ -3,8 +3,8 @@ use Rattle.yt_graph.specs.Picture.{stmt_tree, block_tree}
 use Rattle.yt_graph.specs.Parts.{stmt_weight, block_weight}
 use Rattle.yt_graph.specs.Meaning.{turns, block_run}
 use Rattle.yt_graph.specs.Cost.{block_cost}
-use Rattle.yt_mean.specs.Progress.{after, turn_run}
-use Rattle.yt_mean.specs.Within.{IsBlockWithin}
+use Rattle.yt_mean.specs.Inside.Progress.{after, turn_run}
+use Rattle.yt_mean.specs.Inside.Within.{IsBlockWithin}
 use Rattle.yt_mean.proofs.walk.Walk.+walk.Given as goal
 
 abbrev pub decreases-stmt : goal.decreases-stmt

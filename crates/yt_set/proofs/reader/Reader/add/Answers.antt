@@ -1,7 +1,7 @@
 use Rattle.std.proofs.Common.{◌≡◌, ℕ, [], ◌∷◌, ◌++◌, false, cond, length, ◌<◌, sym, subst, ap, ◌∙◌}
 use Rattle.yt_set.specs.declared.task.Task.{Task}
 use Rattle.yt_set.specs.NamedTasks.{NamedTasks, IsNamed}
-use Rattle.yt_set.specs.Reading.{with_new}
+use Rattle.yt_set.specs.Inside.Reading.{with_new}
 use Rattle.yt_table.specs.Tables.{is_among}
 use Rattle.yt_set.proofs.NamedLemmas.{same_named, named_more}
 use Rattle.yt_set.proofs.reader.Reader.add.Goals as goal

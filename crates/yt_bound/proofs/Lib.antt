@@ -1,0 +1,7 @@
+pub mod Lemmas
+mod Bounded
+mod Counts
+mod Feeds
+mod Limits
+mod Outs
+mod TraceCounts

@@ -1,0 +1,12 @@
+use Rattle.std.proofs.Common.{◌≡◌, ◌≤◌, ◌+◌, ◌-◌, ◌++◌, length, drop}
+use Rattle.yt_graph.specs.Picture.{graph_tree}
+use Rattle.yt_run.specs.RunText.{told_text}
+use Rattle.yt_cmd_run.proofs.text.put_told.Given as goal
+
+-- what was put so far, and then what is left, is all
+abbrev pub invariant-left : goal.invariant-left
+invariant-left l = (l.i ≤ length l.segments) × (l.j ≤ length l.lines)
+    × (l.text ++ told_text (graph_tree l.names.graph.now) (drop l.i l.segments) (drop l.j l.lines) ≡ l.fn.text ++ told_text (graph_tree l.names.graph.now) l.segments l.lines)
+
+abbrev pub decreases-left : goal.decreases-left
+decreases-left l = (length l.segments - l.i) + (length l.lines - l.j)

@@ -1,0 +1,5 @@
+mod Ranges
+mod GraphLines
+mod OneOrder
+mod MessageOrder
+mod Lengths

@@ -1,0 +1,2 @@
+-- What a path leads to by one part alone: no public clause cites these.
+pub mod OwnParts

@@ -1,0 +1,4 @@
+pub mod Limits
+pub mod Values
+pub mod Heads
+pub mod Tables
