@@ -12,8 +12,8 @@ use Rattle.yt_cmd_play.specs.Causes.{IsPlayText, PlayCause, play_verdict}
 use Rattle.yt_cmd_play.proofs.Lemmas.{one_play, some_play}
 use Rattle.yt_cmd_replay.specs.Causes.{IsReplayText, ReplayCause, replay_verdict}
 use Rattle.yt_cmd_replay.proofs.Lemmas.{one_replay, some_replay}
-use Rattle.yt_cmd_run.specs.Causes.{IsRunText, IsStopText, RunCause, StopCause, run_verdict, stop_verdict}
-use Rattle.yt_cmd_run.proofs.Lemmas.{one_run, one_stop, some_run, some_stop}
+use Rattle.yt_cmd_run.specs.Causes.{IsRunText, IsStopText, RunCause, run_verdict}
+use Rattle.yt_cmd_run.proofs.Lemmas.{one_run, some_run}
 use Rattle.yt_cmd_set.specs.Judged.{IsJudgedText, JudgedSetCause, judged_verdict}
 use Rattle.yt_cmd_set.proofs.Lemmas.{one_judged, some_judged}
 use Rattle.yartos.specs.declared.words.Command as declared
@@ -63,7 +63,7 @@ first_long told (form graph) number is = one_long told graph (λ g. FormCause g)
 first_long told (tasks graph) number is = one_long told graph (λ g. TasksCause g) (λ g why. tasks_verdict why) (λ g why. IsTasksText why) number is
 first_long told (check graph) number is = one_long told graph (λ g. CheckCause g) (λ g why. check_verdict why) (λ g why. IsCheckText why) number is
 first_long told (run graph trace) number is = two_long told graph trace (λ g t. RunCause g t) (λ g t why. run_verdict why) (λ g t why. IsRunText why) number is
-first_long told (stop graph trace tick) number is = two_long told graph trace (λ g t. StopCause g) (λ g t why. stop_verdict why) (λ g t why. IsStopText why) number is
+first_long told (stop graph trace tick) number is = two_long told graph trace (λ g t. RunCause g t) (λ g t why. run_verdict why) (λ g t why. IsStopText tick why) number is
 first_long told (set named) number is = one_long told named (λ s. JudgedSetCause s) (λ s why. judged_verdict why) (λ s why. IsJudgedText why) number is
 first_long told (replay named) number is = one_long told named (λ s. ReplayCause s) (λ s why. replay_verdict why) (λ s why. IsReplayText why) number is
 first_long told (play named plan) number is = two_long told named plan (λ s p. PlayCause s p) (λ s p why. play_verdict why) (λ s p why. IsPlayText why) number is
@@ -81,7 +81,7 @@ one_command held (form graph) a b = one_file held graph (λ g. FormCause g) (λ 
 one_command held (tasks graph) a b = one_file held graph (λ g. TasksCause g) (λ g why. tasks_verdict why) one_tasks a b
 one_command held (check graph) a b = one_file held graph (λ g. CheckCause g) (λ g why. check_verdict why) one_check a b
 one_command held (run graph trace) a b = two_files held graph trace (λ g t. RunCause g t) (λ g t why. run_verdict why) one_run a b
-one_command held (stop graph trace tick) a b = two_files held graph trace (λ g t. StopCause g) (λ g t why. stop_verdict why) (λ g t. one_stop g) a b
+one_command held (stop graph trace tick) a b = two_files held graph trace (λ g t. RunCause g t) (λ g t why. run_verdict why) (λ g t. one_run g t) a b
 one_command held (set named) a b = one_file held named (λ s. JudgedSetCause s) (λ s why. judged_verdict why) one_judged a b
 one_command held (replay named) a b = one_file held named (λ s. ReplayCause s) (λ s why. replay_verdict why) one_replay a b
 one_command held (play named plan) a b = two_files held named plan (λ s p. PlayCause s p) (λ s p why. play_verdict why) one_play a b
@@ -102,7 +102,7 @@ command_held held (form graph) cause cannot = one_held held graph (λ g. FormCau
 command_held held (tasks graph) cause cannot = one_held held graph (λ g. TasksCause g) cause cannot
 command_held held (check graph) cause cannot = one_held held graph (λ g. CheckCause g) cause cannot
 command_held held (run graph trace) cause cannot = two_held held graph trace (λ g t. RunCause g t) cause cannot
-command_held held (stop graph trace tick) cause cannot = two_held held graph trace (λ g t. StopCause g) cause cannot
+command_held held (stop graph trace tick) cause cannot = two_held held graph trace (λ g t. RunCause g t) cause cannot
 command_held held (set named) cause cannot = one_held held named (λ s. JudgedSetCause s) cause cannot
 command_held held (replay named) cause cannot = one_held held named (λ s. ReplayCause s) cause cannot
 command_held held (play named plan) cause cannot = two_held held named plan (λ s p. PlayCause s p) cause cannot
@@ -124,7 +124,7 @@ some_command held (form graph) there none = some_one held graph (λ g. FormCause
 some_command held (tasks graph) there none = some_one held graph (λ g. TasksCause g) some_tasks there none
 some_command held (check graph) there none = some_one held graph (λ g. CheckCause g) some_check there none
 some_command held (run graph trace) there none = some_two held graph trace (λ g t. RunCause g t) some_run there none
-some_command held (stop graph trace tick) there none = some_two held graph trace (λ g t. StopCause g) (λ g t. some_stop g) there none
+some_command held (stop graph trace tick) there none = some_two held graph trace (λ g t. RunCause g t) (λ g t. some_run g t) there none
 some_command held (set named) there none = some_one held named (λ s. JudgedSetCause s) some_judged there none
 some_command held (replay named) there none = some_one held named (λ s. ReplayCause s) some_replay there none
 some_command held (play named plan) there none = some_two held named plan (λ s p. PlayCause s p) some_play there none

@@ -8,7 +8,7 @@ use Rattle.yt_cmd_check.specs.Tasks.{IsTasksText, TasksCause, tasks_verdict}
 use Rattle.yt_cmd_form.specs.Form.{FormCause, IsFormText, form_verdict}
 use Rattle.yt_cmd_play.specs.Causes.{IsPlayText, PlayCause, play_verdict}
 use Rattle.yt_cmd_replay.specs.Causes.{IsReplayText, ReplayCause, replay_verdict}
-use Rattle.yt_cmd_run.specs.Causes.{IsRunText, IsStopText, RunCause, StopCause, run_verdict, stop_verdict}
+use Rattle.yt_cmd_run.specs.Causes.{IsRunText, IsStopText, RunCause, run_verdict}
 use Rattle.yt_cmd_set.specs.Judged.{IsJudgedText, JudgedSetCause, judged_verdict}
 use Rattle.yartos.specs.FileCauses.{FileCause, IsFileText, file_verdict}
 use Rattle.yartos.specs.Words.{Command, Request, check, demo, form, judges, misuse, play, replay, run, set, stop, tasks}
@@ -19,7 +19,7 @@ CommandCause told (form graph) = FileCause told graph (λ g. FormCause g)
 CommandCause told (tasks graph) = FileCause told graph (λ g. TasksCause g)
 CommandCause told (check graph) = FileCause told graph (λ g. CheckCause g)
 CommandCause told (run graph trace) = FileCause told graph (λ g. FileCause told trace (λ t. RunCause g t))
-CommandCause told (stop graph trace tick) = FileCause told graph (λ g. FileCause told trace (λ t. StopCause g))
+CommandCause told (stop graph trace tick) = FileCause told graph (λ g. FileCause told trace (λ t. RunCause g t))
 CommandCause told (set named) = FileCause told named (λ s. JudgedSetCause s)
 CommandCause told (replay named) = FileCause told named (λ s. ReplayCause s)
 CommandCause told (play named plan) = FileCause told named (λ s. FileCause told plan (λ p. PlayCause s p))
@@ -30,7 +30,7 @@ command_verdict told (form graph) cause = file_verdict (λ g why. form_verdict w
 command_verdict told (tasks graph) cause = file_verdict (λ g why. tasks_verdict why) cause
 command_verdict told (check graph) cause = file_verdict (λ g why. check_verdict why) cause
 command_verdict told (run graph trace) cause = file_verdict (λ g. file_verdict (λ t why. run_verdict why)) cause
-command_verdict told (stop graph trace tick) cause = file_verdict (λ g. file_verdict (λ t why. stop_verdict why)) cause
+command_verdict told (stop graph trace tick) cause = file_verdict (λ g. file_verdict (λ t why. run_verdict why)) cause
 command_verdict told (set named) cause = file_verdict (λ s why. judged_verdict why) cause
 command_verdict told (replay named) cause = file_verdict (λ s why. replay_verdict why) cause
 command_verdict told (play named plan) cause = file_verdict (λ s. file_verdict (λ p why. play_verdict why)) cause
@@ -41,7 +41,7 @@ IsCommandText told (form graph) cause text = IsFileText 1 (λ g why. IsFormText 
 IsCommandText told (tasks graph) cause text = IsFileText 1 (λ g why. IsTasksText why) cause text
 IsCommandText told (check graph) cause text = IsFileText 1 (λ g why. IsCheckText why) cause text
 IsCommandText told (run graph trace) cause text = IsFileText 1 (λ g. IsFileText 2 (λ t why. IsRunText why)) cause text
-IsCommandText told (stop graph trace tick) cause text = IsFileText 1 (λ g. IsFileText 2 (λ t why. IsStopText why)) cause text
+IsCommandText told (stop graph trace tick) cause text = IsFileText 1 (λ g. IsFileText 2 (λ t why. IsStopText tick why)) cause text
 IsCommandText told (set named) cause text = IsFileText 1 (λ s why. IsJudgedText why) cause text
 IsCommandText told (replay named) cause text = IsFileText 1 (λ s why. IsReplayText why) cause text
 IsCommandText told (play named plan) cause text = IsFileText 1 (λ s. IsFileText 2 (λ p why. IsPlayText why)) cause text

@@ -1,18 +1,16 @@
-//! Runs and stops of graphs: which graphs are run so far, and how the others are refused.
+//! Runs and stops of graphs: which graphs are refused, and how one graph may be written.
 use std::test::Fail;
 use yartos::Status;
 use yartos_rows::{
-    BLINK, BUSY, BUSY_TEXT, COSTLY, COUNTER, CROWDED, MANY_SENDS, RELAY, Row, TIGHT, TIGHT_TEXT,
-    UNDECLARED, WIDE, judge,
+    BUSY, BUSY_TEXT, COSTLY, CROWDED, MANY_SENDS, Row, TIGHT, TIGHT_TEXT, UNDECLARED, WIDE, judge,
 };
 
 const RUN: &[&str] = &["run", "g", "t"];
 
 const STOP: &[&str] = &["stop", "g", "t", "0"];
 
-/// Graphs that are refused, whose tasks don't fit, or that aren't run so far; and stops, which aren't built yet.
+/// Graphs that are refused, or whose tasks don't fit, whatever the trace holds.
 const REFUSED: &[Row] = &[
-    (STOP, &[("g", BLINK), ("t", "")], Status::NotYet, "notyet\n"),
     (
         RUN,
         &[("g", UNDECLARED), ("t", "")],
@@ -43,14 +41,6 @@ const REFUSED: &[Row] = &[
         Status::Graph,
         "graph sends p.a o\n",
     ),
-    (RUN, &[("g", RELAY), ("t", "")], Status::NotYet, "notyet\n"),
-    (
-        RUN,
-        &[("g", COUNTER), ("t", "")],
-        Status::NotYet,
-        "notyet\n",
-    ),
-    (STOP, &[("g", RELAY), ("t", "")], Status::NotYet, "notyet\n"),
     (
         RUN,
         &[("g", CROWDED), ("t", "")],
@@ -77,6 +67,18 @@ const REFUSED: &[Row] = &[
         Status::Graph,
         "graph hyperperiod p.f\n",
     ),
+    (
+        STOP,
+        &[("g", WIDE), ("t", "no trace")],
+        Status::Graph,
+        "graph hyperperiod p.f\n",
+    ),
+    (
+        STOP,
+        &[("g", CROWDED), ("t", "no trace")],
+        Status::Graph,
+        "graph rate p.a.o zero\n",
+    ),
 ];
 
 #[test]
@@ -85,8 +87,60 @@ fn a_graph_is_judged_before_its_run(rt: HostRuntime) -> Result<(), Fail> {
     Ok(())
 }
 
-/// A graph that is run so far with other white space, comments and leading zeros; the same with brackets, with `every 1`, with its
-/// parts in other orders, and with one part more.
+/// Graphs whose handlers call operators: they wait as soon as their grammar is judged, whatever the names and the trace are.
+const CALLING: &[Row] = &[
+    (
+        RUN,
+        &[
+            (
+                "g",
+                "input i(1) period 10 process p { port a from i (v) { let x = greater(v, 3) } }",
+            ),
+            ("t", "0 i 1\n"),
+        ],
+        Status::NotYet,
+        "notyet\n",
+    ),
+    (
+        STOP,
+        &[
+            (
+                "g",
+                "input i(1) period 10 process p { port a from i (v) { let x = greater(v, 3) } }",
+            ),
+            ("t", "0 i 1\n"),
+        ],
+        Status::NotYet,
+        "notyet\n",
+    ),
+    (
+        RUN,
+        &[
+            ("g", "process p { port a from i () { x = abs(y) } }"),
+            ("t", "no trace"),
+        ],
+        Status::NotYet,
+        "notyet\n",
+    ),
+    (
+        STOP,
+        &[
+            ("g", "process p { port a from i () { x = abs() } }"),
+            ("t", ""),
+        ],
+        Status::Graph,
+        "graph syntax 1 40\n",
+    ),
+];
+
+#[test]
+fn graphs_that_call_operators_wait(rt: HostRuntime) -> Result<(), Fail> {
+    judge(rt.alloc(), CALLING)?;
+    Ok(())
+}
+
+/// A graph with other white space, comments and leading zeros; the same with brackets, with `every 1`, with its parts in other orders, and
+/// with parts more.
 const WRITTEN_SO: &[Row] = &[
     (
         RUN,
@@ -109,8 +163,8 @@ const WRITTEN_SO: &[Row] = &[
             ),
             ("t", "0 tick 7\n"),
         ],
-        Status::NotYet,
-        "notyet\n",
+        Status::Done,
+        "run 0 5 p.a 1\nout 10 led 8\nend 10\n",
     ),
     (
         RUN,
@@ -121,8 +175,8 @@ const WRITTEN_SO: &[Row] = &[
             ),
             ("t", "0 tick 7\n"),
         ],
-        Status::NotYet,
-        "notyet\n",
+        Status::Done,
+        "run 0 5 p.a 1\nout 10 led 8\nend 10\n",
     ),
     (
         RUN,
@@ -133,8 +187,8 @@ const WRITTEN_SO: &[Row] = &[
             ),
             ("t", "0 tick 7\n"),
         ],
-        Status::NotYet,
-        "notyet\n",
+        Status::Done,
+        "run 0 5 p.a 1\nout 10 led 8\nend 10\n",
     ),
     (
         RUN,
@@ -145,8 +199,8 @@ const WRITTEN_SO: &[Row] = &[
             ),
             ("t", "0 tick 7\n"),
         ],
-        Status::NotYet,
-        "notyet\n",
+        Status::Done,
+        "run 0 5 p.a 1\nout 10 led 8\nend 10\n",
     ),
     (
         RUN,
@@ -157,25 +211,25 @@ const WRITTEN_SO: &[Row] = &[
             ),
             ("t", "0 tick 7\n"),
         ],
-        Status::NotYet,
-        "notyet\n",
+        Status::Done,
+        "run 0 5 p.a 1\nout 10 led 8\nend 10\n",
     ),
     (
         RUN,
         &[
             (
                 "g",
-                "input tick(1) period 10 output led from p.a.o process p { port a from tick (v) out o(1) { send o (v + 1) } } process q { }",
+                "input tick(1) period 10 output led from p.a.o process p { port a from tick (v) out o(1) { send o (v + 1) } } resource r process q in r { var s = 1 }",
             ),
             ("t", "0 tick 7\n"),
         ],
-        Status::NotYet,
-        "notyet\n",
+        Status::Done,
+        "run 0 5 p.a 1\nout 10 led 8\nend 10\n",
     ),
 ];
 
 #[test]
-fn a_graph_is_run_where_it_is_written_plainly(rt: HostRuntime) -> Result<(), Fail> {
+fn a_graph_is_run_however_it_is_written(rt: HostRuntime) -> Result<(), Fail> {
     judge(rt.alloc(), WRITTEN_SO)?;
     Ok(())
 }

@@ -1,22 +1,312 @@
-//! Runs on traces: what is printed, and how a trace is read and judged.
+//! Traces: how their texts are read, and which are refused.
+use crate::graph_texts::{INPUTS, MOST};
 use std::test::Fail;
 use yartos::Status;
 use yartos_rows::{BLINK, FAST, Row, judge};
 
 const RUN: &[&str] = &["run", "g", "t"];
 
-/// A graph whose port takes all of its period.
-const BUSY: &str =
-    "input tick(1) period 5\noutput x from left.go.o\nprocess left {\n  port go from tick (v) out o(1) {\n    send o (v + 1)\n  }\n}\n";
+const STOP: &[&str] = &["stop", "g", "t", "0"];
 
-/// Texts of traces; a text that isn't made as traces are is `notyet`.
+/// Traces with other white space, without a last line feed, with comments and with leading zeros; at the edges of times and values; and
+/// of several inputs at one tick.
 const TEXTS: &[Row] = &[
-    (RUN, &[("g", BLINK), ("t", "")], Status::Done, "end 0\n"),
     (
         RUN,
-        &[("g", BLINK), ("t", "0 tick 7\n")],
+        &[("g", BLINK), ("t", "0 tick 7")],
         Status::Done,
-        "run 0 5 p.a 1\nout 10 led 8\nend 10\n",
+        "run 0 5 p.a 1\n\
+        out 10 led 8\n\
+        end 10\n",
+    ),
+    (
+        RUN,
+        &[("g", BLINK), ("t", "0 tick 7\n\n")],
+        Status::Done,
+        "run 0 5 p.a 1\n\
+        out 10 led 8\n\
+        end 10\n",
+    ),
+    (
+        RUN,
+        &[("g", BLINK), ("t", "\n\n  \t\r\n0 tick 7\n")],
+        Status::Done,
+        "run 0 5 p.a 1\n\
+        out 10 led 8\n\
+        end 10\n",
+    ),
+    (
+        RUN,
+        &[("g", BLINK), ("t", "0 tick 7\r\n")],
+        Status::Done,
+        "run 0 5 p.a 1\n\
+        out 10 led 8\n\
+        end 10\n",
+    ),
+    (
+        RUN,
+        &[("g", BLINK), ("t", "0  tick\t 7\n")],
+        Status::Done,
+        "run 0 5 p.a 1\n\
+        out 10 led 8\n\
+        end 10\n",
+    ),
+    (
+        RUN,
+        &[("g", BLINK), ("t", "\t 0 tick 7 \t\n")],
+        Status::Done,
+        "run 0 5 p.a 1\n\
+        out 10 led 8\n\
+        end 10\n",
+    ),
+    (
+        RUN,
+        &[("g", BLINK), ("t", "00 tick 07\n")],
+        Status::Done,
+        "run 0 5 p.a 1\n\
+        out 10 led 8\n\
+        end 10\n",
+    ),
+    (
+        RUN,
+        &[("g", BLINK), ("t", "# the first\n0 tick 7\n #10 tick 8\n")],
+        Status::Done,
+        "run 0 5 p.a 1\n\
+        out 10 led 8\n\
+        end 10\n",
+    ),
+    (
+        RUN,
+        &[("g", BLINK), ("t", "0 tick -0\n")],
+        Status::Done,
+        "run 0 5 p.a 1\n\
+        out 10 led 1\n\
+        end 10\n",
+    ),
+    (RUN, &[("g", BLINK), ("t", "\n")], Status::Done, "end 0\n"),
+    (RUN, &[("g", BLINK), ("t", "#")], Status::Done, "end 0\n"),
+    (
+        RUN,
+        &[("g", BLINK), ("t", "10 tick -5\n20 tick 0")],
+        Status::Done,
+        "run 10 15 p.a 1\n\
+        out 20 led -4\n\
+        run 20 25 p.a 2\n\
+        out 30 led 1\n\
+        end 30\n",
+    ),
+    (
+        RUN,
+        &[("g", BLINK), ("t", "0 tick 7\n10 tick 8\n25 tick 9\n")],
+        Status::Done,
+        "run 0 5 p.a 1\n\
+        out 10 led 8\n\
+        run 10 15 p.a 2\n\
+        out 20 led 9\n\
+        run 25 30 p.a 3\n\
+        out 35 led 10\n\
+        end 35\n",
+    ),
+    (
+        RUN,
+        &[("g", BLINK), ("t", "4000000 tick 7\n")],
+        Status::Done,
+        "run 4000000 4000005 p.a 1\n\
+        out 4000010 led 8\n\
+        end 4000010\n",
+    ),
+    (
+        RUN,
+        &[("g", BLINK), ("t", "0 tick 9223372036854775807\n")],
+        Status::Done,
+        "run 0 5 p.a 1\n\
+        out 10 led -9223372036854775808\n\
+        end 10\n",
+    ),
+    (
+        RUN,
+        &[("g", BLINK), ("t", "0 tick -9223372036854775808\n")],
+        Status::Done,
+        "run 0 5 p.a 1\n\
+        out 10 led -9223372036854775807\n\
+        end 10\n",
+    ),
+    (
+        RUN,
+        &[
+            ("g", INPUTS),
+            ("t", "0 none\n0 two 1 -2\n0 one 3\n7 one 4\n10 none\n"),
+        ],
+        Status::Done,
+        "run 0 4 p.a 1\n\
+        out 1000000 o -2 1\n\
+        end 1000000\n",
+    ),
+];
+
+#[test]
+fn texts_of_traces_are_read(rt: HostRuntime) -> Result<(), Fail> {
+    judge(rt.alloc(), TEXTS)?;
+    Ok(())
+}
+
+/// Traces that are refused: the first line at fault, by its first fault.
+const FAULTS: &[Row] = &[
+    (
+        RUN,
+        &[("g", BLINK), ("t", "tick 7\n")],
+        Status::Trace,
+        "trace 1 form\n",
+    ),
+    (
+        RUN,
+        &[("g", BLINK), ("t", "0\n")],
+        Status::Trace,
+        "trace 1 form\n",
+    ),
+    (
+        RUN,
+        &[("g", BLINK), ("t", "x tick 7\n")],
+        Status::Trace,
+        "trace 1 form\n",
+    ),
+    (
+        RUN,
+        &[("g", BLINK), ("t", "-1 tick 7\n")],
+        Status::Trace,
+        "trace 1 form\n",
+    ),
+    (
+        RUN,
+        &[("g", BLINK), ("t", "+0 tick 7\n")],
+        Status::Trace,
+        "trace 1 form\n",
+    ),
+    (
+        RUN,
+        &[("g", BLINK), ("t", "0 tick +7\n")],
+        Status::Trace,
+        "trace 1 form\n",
+    ),
+    (
+        RUN,
+        &[("g", BLINK), ("t", "0 tick 7x\n")],
+        Status::Trace,
+        "trace 1 form\n",
+    ),
+    (
+        RUN,
+        &[("g", BLINK), ("t", "0 tick -\n")],
+        Status::Trace,
+        "trace 1 form\n",
+    ),
+    (
+        RUN,
+        &[("g", BLINK), ("t", "0 tick 9223372036854775808\n")],
+        Status::Trace,
+        "trace 1 form\n",
+    ),
+    (
+        RUN,
+        &[("g", BLINK), ("t", "0 tick -9223372036854775809\n")],
+        Status::Trace,
+        "trace 1 form\n",
+    ),
+    (
+        RUN,
+        &[("g", BLINK), ("t", "0 tock x\n")],
+        Status::Trace,
+        "trace 1 form\n",
+    ),
+    (
+        RUN,
+        &[("g", BLINK), ("t", "0 tock 7\n")],
+        Status::Trace,
+        "trace 1 unknown\n",
+    ),
+    (
+        RUN,
+        &[("g", BLINK), ("t", "0 ticks 7\n")],
+        Status::Trace,
+        "trace 1 unknown\n",
+    ),
+    (
+        RUN,
+        &[("g", BLINK), ("t", "0 Tick 7\n")],
+        Status::Trace,
+        "trace 1 unknown\n",
+    ),
+    (
+        RUN,
+        &[("g", BLINK), ("t", "0 led 7\n")],
+        Status::Trace,
+        "trace 1 unknown\n",
+    ),
+    (
+        RUN,
+        &[("g", BLINK), ("t", "0 7\n")],
+        Status::Trace,
+        "trace 1 unknown\n",
+    ),
+    (
+        RUN,
+        &[("g", BLINK), ("t", "0 tick\n")],
+        Status::Trace,
+        "trace 1 width\n",
+    ),
+    (
+        RUN,
+        &[("g", BLINK), ("t", "0 tick 7 8\n")],
+        Status::Trace,
+        "trace 1 width\n",
+    ),
+    (
+        RUN,
+        &[("g", BLINK), ("t", "4000001 tick\n")],
+        Status::Trace,
+        "trace 1 width\n",
+    ),
+    (
+        RUN,
+        &[("g", INPUTS), ("t", "0 none 0\n")],
+        Status::Trace,
+        "trace 1 width\n",
+    ),
+    (
+        RUN,
+        &[("g", INPUTS), ("t", "0 two 1\n")],
+        Status::Trace,
+        "trace 1 width\n",
+    ),
+    (
+        RUN,
+        &[("g", INPUTS), ("t", "0 two 1 2 3\n")],
+        Status::Trace,
+        "trace 1 width\n",
+    ),
+    (
+        RUN,
+        &[("g", BLINK), ("t", "4000001 tick 7\n")],
+        Status::Trace,
+        "trace 1 late\n",
+    ),
+    (
+        RUN,
+        &[("g", BLINK), ("t", "99999999999999999999999999 tick 7\n")],
+        Status::Trace,
+        "trace 1 late\n",
+    ),
+    (
+        RUN,
+        &[("g", BLINK), ("t", "4000000 tick 7\n4000001 tick 7\n")],
+        Status::Trace,
+        "trace 2 late\n",
+    ),
+    (
+        RUN,
+        &[("g", BLINK), ("t", "5 tick 7\n4 tick 7\n")],
+        Status::Trace,
+        "trace 2 order\n",
     ),
     (
         RUN,
@@ -26,193 +316,30 @@ const TEXTS: &[Row] = &[
     ),
     (
         RUN,
-        &[("g", BLINK), ("t", "10 tick -5\n20 tick 0\n")],
-        Status::Done,
-        "run 10 15 p.a 1\nout 20 led -4\nrun 20 25 p.a 2\nout 30 led 1\nend 30\n",
+        &[
+            ("g", BLINK),
+            ("t", "# one\n0 tick 0\n10 tick 0\n\n20 tick 0\n5 tick 0\n"),
+        ],
+        Status::Trace,
+        "trace 6 order\n",
     ),
     (
         RUN,
-        &[("g", BLINK), ("t", "0 tick 7")],
-        Status::NotYet,
-        "notyet\n",
-    ),
-    (
-        RUN,
-        &[("g", BLINK), ("t", "0 tick 7\n1 tick 8")],
-        Status::NotYet,
-        "notyet\n",
-    ),
-    (
-        RUN,
-        &[("g", BLINK), ("t", "\n")],
-        Status::NotYet,
-        "notyet\n",
-    ),
-    (
-        RUN,
-        &[("g", BLINK), ("t", "0 tick 7\n\n")],
-        Status::NotYet,
-        "notyet\n",
-    ),
-    (
-        RUN,
-        &[("g", BLINK), ("t", "0 tick 7\r\n")],
-        Status::NotYet,
-        "notyet\n",
-    ),
-    (
-        RUN,
-        &[("g", BLINK), ("t", "0  tick 7\n")],
-        Status::NotYet,
-        "notyet\n",
-    ),
-    (
-        RUN,
-        &[("g", BLINK), ("t", "0 tick  7\n")],
-        Status::NotYet,
-        "notyet\n",
-    ),
-    (
-        RUN,
-        &[("g", BLINK), ("t", " 0 tick 7\n")],
-        Status::NotYet,
-        "notyet\n",
-    ),
-    (
-        RUN,
-        &[("g", BLINK), ("t", "0 tick 7 \n")],
-        Status::NotYet,
-        "notyet\n",
-    ),
-    (
-        RUN,
-        &[("g", BLINK), ("t", "0\ttick 7\n")],
-        Status::NotYet,
-        "notyet\n",
-    ),
-    (
-        RUN,
-        &[("g", BLINK), ("t", "00 tick 7\n")],
-        Status::NotYet,
-        "notyet\n",
-    ),
-    (
-        RUN,
-        &[("g", BLINK), ("t", "0 tick 07\n")],
-        Status::NotYet,
-        "notyet\n",
-    ),
-    (
-        RUN,
-        &[("g", BLINK), ("t", "0 tick -0\n")],
-        Status::NotYet,
-        "notyet\n",
-    ),
-    (
-        RUN,
-        &[("g", BLINK), ("t", "0 tick +7\n")],
-        Status::NotYet,
-        "notyet\n",
-    ),
-    (
-        RUN,
-        &[("g", BLINK), ("t", "0 tick\n")],
-        Status::NotYet,
-        "notyet\n",
-    ),
-    (
-        RUN,
-        &[("g", BLINK), ("t", "tick 7\n")],
-        Status::NotYet,
-        "notyet\n",
-    ),
-    (
-        RUN,
-        &[("g", BLINK), ("t", "0 tock 7\n")],
-        Status::NotYet,
-        "notyet\n",
-    ),
-    (
-        RUN,
-        &[("g", BLINK), ("t", "0 ticks 7\n")],
-        Status::NotYet,
-        "notyet\n",
-    ),
-    (
-        RUN,
-        &[("g", BLINK), ("t", "4000000 tick 7\n")],
-        Status::Done,
-        "run 4000000 4000005 p.a 1\nout 4000010 led 8\nend 4000010\n",
-    ),
-    (
-        RUN,
-        &[("g", BLINK), ("t", "4000001 tick 7\n")],
-        Status::NotYet,
-        "notyet\n",
-    ),
-    (
-        RUN,
-        &[("g", BLINK), ("t", "0 tick 9223372036854775807\n")],
-        Status::Done,
-        "run 0 5 p.a 1\nout 10 led -9223372036854775808\nend 10\n",
-    ),
-    (
-        RUN,
-        &[("g", BLINK), ("t", "0 tick 9223372036854775808\n")],
-        Status::NotYet,
-        "notyet\n",
-    ),
-    (
-        RUN,
-        &[("g", BLINK), ("t", "0 tick -9223372036854775808\n")],
-        Status::Done,
-        "run 0 5 p.a 1\nout 10 led -9223372036854775807\nend 10\n",
-    ),
-    (
-        RUN,
-        &[("g", BLINK), ("t", "0 tick -9223372036854775809\n")],
-        Status::NotYet,
-        "notyet\n",
-    ),
-];
-
-#[test]
-fn texts_are_read_as_they_are_printed(rt: HostRuntime) -> Result<(), Fail> {
-    judge(rt.alloc(), TEXTS)?;
-    Ok(())
-}
-
-/// Traces of an input whose period is 10 ticks.
-const FAULTS: &[Row] = &[
-    (
-        RUN,
-        &[("g", BLINK), ("t", "7 tick 0\n")],
-        Status::Done,
-        "run 7 12 p.a 1\nout 17 led 1\nend 17\n",
-    ),
-    (
-        RUN,
-        &[("g", BLINK), ("t", "0 tick 0\n10 tick 0\n25 tick 0\n")],
-        Status::Done,
-        "run 0 5 p.a 1\nout 10 led 1\nrun 10 15 p.a 2\nout 20 led 1\nrun 25 30 p.a 3\nout 35 led 1\nend 35\n",
-    ),
-    (
-        RUN,
-        &[("g", BLINK), ("t", "5 tick 0\n4 tick 0\n")],
+        &[("g", INPUTS), ("t", "5 none\n4 one 1\n")],
         Status::Trace,
         "trace 2 order\n",
+    ),
+    (
+        RUN,
+        &[("g", BLINK), ("t", "0 tick 7\n9 tick 8\n")],
+        Status::Trace,
+        "trace 2 soon 10\n",
     ),
     (
         RUN,
         &[("g", BLINK), ("t", "5 tick 0\n5 tick 0\n")],
         Status::Trace,
         "trace 2 soon 15\n",
-    ),
-    (
-        RUN,
-        &[("g", BLINK), ("t", "0 tick 0\n9 tick 0\n")],
-        Status::Trace,
-        "trace 2 soon 10\n",
     ),
     (
         RUN,
@@ -225,64 +352,41 @@ const FAULTS: &[Row] = &[
     ),
     (
         RUN,
+        &[("g", BLINK), ("t", "4000000 tick 0\n4000000 tick 0\n")],
+        Status::Trace,
+        "trace 2 soon 4000010\n",
+    ),
+    (
+        RUN,
         &[
-            ("g", BLINK),
-            ("t", "0 tick 0\n10 tick 0\n20 tick 0\n5 tick 0\n"),
+            ("g", INPUTS),
+            ("t", "0 none\n0 two 1 2\n0 one 3\n6 one 4\n"),
         ],
         Status::Trace,
-        "trace 4 order\n",
+        "trace 4 soon 7\n",
+    ),
+    (
+        RUN,
+        &[("g", INPUTS), ("t", "0 one 1\n5 none\n7 one 2\n14 none\n")],
+        Status::Trace,
+        "trace 4 soon 15\n",
+    ),
+    (
+        RUN,
+        &[("g", INPUTS), ("t", "1000 two 0 0\n1000999 two 0 0")],
+        Status::Trace,
+        "trace 2 soon 1001000\n",
     ),
 ];
 
 #[test]
-fn the_first_fault_is_found(rt: HostRuntime) -> Result<(), Fail> {
+fn the_first_fault_is_told(rt: HostRuntime) -> Result<(), Fail> {
     judge(rt.alloc(), FAULTS)?;
     Ok(())
 }
 
-/// Runs, and what is printed of them: a segment comes before the lines of its end.
-const RUNS: &[Row] = &[
-    (
-        RUN,
-        &[("g", BUSY), ("t", "2 tick 0\n7 tick -21\n13 tick 299\n")],
-        Status::Done,
-        "run 2 7 left.go 1\nout 7 x 1\nrun 7 12 left.go 2\nout 12 x -20\nrun 13 18 left.go 3\nout 18 x 300\nend 18\n",
-    ),
-    (RUN, &[("g", BUSY), ("t", "")], Status::Done, "end 0\n"),
-    (
-        RUN,
-        &[("g", BLINK), ("t", "0 tick 7\n10 tick 8\n")],
-        Status::Done,
-        "run 0 5 p.a 1\nout 10 led 8\nrun 10 15 p.a 2\nout 20 led 9\nend 20\n",
-    ),
-    (
-        RUN,
-        &[("g", BLINK), ("t", "3 tick 9223372036854775807\n")],
-        Status::Done,
-        "run 3 8 p.a 1\nout 13 led -9223372036854775808\nend 13\n",
-    ),
-];
-
-#[test]
-fn runs_are_printed(rt: HostRuntime) -> Result<(), Fail> {
-    judge(rt.alloc(), RUNS)?;
-    Ok(())
-}
-
-/// Runs that are refused: the graph decides before the trace does.
+/// What decides first: the graph before the trace, and a line at fault before the bound of jobs and lines, which may be 1,000,000.
 const REFUSED: &[Row] = &[
-    (
-        RUN,
-        &[("g", BLINK), ("t", "0 tick 7\n9 tick 8\n")],
-        Status::Trace,
-        "trace 2 soon 10\n",
-    ),
-    (
-        RUN,
-        &[("g", BLINK), ("t", "10 tick 7\n9 tick 8\n")],
-        Status::Trace,
-        "trace 2 order\n",
-    ),
     (
         RUN,
         &[("g", FAST), ("t", "0 tick 7\n")],
@@ -297,14 +401,56 @@ const REFUSED: &[Row] = &[
     ),
     (
         RUN,
-        &[("g", "resource r\n"), ("t", "0 tick 7\n")],
-        Status::NotYet,
-        "notyet\n",
+        &[("g", MOST), ("t", "0 go 0\n0 signal\n")],
+        Status::Trace,
+        "trace jobs 1000001\n",
+    ),
+    (
+        RUN,
+        &[("g", MOST), ("t", "0 signal\n0 go 0\n9 signal\n")],
+        Status::Trace,
+        "trace 3 soon 10\n",
+    ),
+    (
+        RUN,
+        &[("g", BLINK), ("t", "0 tick 7\n9 tick 8\n")],
+        Status::Trace,
+        "trace 2 soon 10\n",
+    ),
+    (
+        STOP,
+        &[("g", FAST), ("t", "0 tick 7\n")],
+        Status::Overload,
+        "overload load 5/4\narrive p.a 0 4 1 5\nhorizon 4\n",
+    ),
+    (
+        STOP,
+        &[("g", FAST), ("t", "no trace")],
+        Status::Overload,
+        "overload load 5/4\narrive p.a 0 4 1 5\nhorizon 4\n",
+    ),
+    (
+        STOP,
+        &[("g", MOST), ("t", "0 go 0\n0 signal\n")],
+        Status::Trace,
+        "trace jobs 1000001\n",
+    ),
+    (
+        STOP,
+        &[("g", MOST), ("t", "0 signal\n0 go 0\n9 signal\n")],
+        Status::Trace,
+        "trace 3 soon 10\n",
+    ),
+    (
+        STOP,
+        &[("g", BLINK), ("t", "0 tick 7\n9 tick 8\n")],
+        Status::Trace,
+        "trace 2 soon 10\n",
     ),
 ];
 
 #[test]
-fn refusals_are_told(rt: HostRuntime) -> Result<(), Fail> {
+fn refusals_come_in_their_order(rt: HostRuntime) -> Result<(), Fail> {
     judge(rt.alloc(), REFUSED)?;
     Ok(())
 }

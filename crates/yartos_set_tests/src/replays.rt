@@ -58,6 +58,15 @@ const REPLAYS: &[Row] = &[
     ),
     (
         REPLAY,
+        &[(
+            "s",
+            "task A 1 2\ntask K 1 100000 r\ntask B 50001 1000000 r\n",
+        )],
+        Status::Long,
+        "long replay 100001 50002\n",
+    ),
+    (
+        REPLAY,
         &[("s", "task A 1 1000001\n")],
         Status::Graph,
         "set 1 period\n",

@@ -60,6 +60,15 @@ const SETS: &[Row] = &[
     ),
     (
         SET,
+        &[(
+            "s",
+            "task A 1 2\ntask K 1 100000 r\ntask B 50001 1000000 r\n",
+        )],
+        Status::Overload,
+        "overload interval B 100001 100002\narrive A 1 2 50000 1\narrive K 1 100000 1 1\narrive B 0 1000000 1 50001\nhorizon 100001\n",
+    ),
+    (
+        SET,
         &[("s", "task A 1 4 r\ntask C 1 30\ntask B 5 20 r\n")],
         Status::Overload,
         "overload interval B 5 6\narrive A 1 4 1 1\narrive B 0 20 1 5\nhorizon 5\n",

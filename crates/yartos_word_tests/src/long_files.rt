@@ -26,8 +26,15 @@ const LONG: &[LongRow] = &[
         &["run", "g", "t"],
         16_777_216,
         16_777_216,
-        Status::NotYet,
-        "notyet\n",
+        Status::Done,
+        "end 0\n",
+    ),
+    (
+        &["check", "g"],
+        16_777_216,
+        0,
+        Status::Done,
+        "accepted 0 0/1\n",
     ),
 ];
 

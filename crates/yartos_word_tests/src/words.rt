@@ -25,8 +25,6 @@ const CHECK: Asked = Asked::Judges(1, Status::Done, "accepted 1 5/10\n");
 
 const RUN: Asked = Asked::Judges(2, Status::Done, "end 0\n");
 
-const STOP: Asked = Asked::Judges(2, Status::NotYet, "notyet\n");
-
 const SET: Asked = Asked::Judges(1, Status::Done, "accepted 2 5/10\n");
 
 const REPLAY: Asked = Asked::Judges(1, Status::Done, "accepted 2 5/10\n");
@@ -48,9 +46,15 @@ const LINES: &[(&str, Asked)] = &[
     ("tasks g", TASKS),
     ("check g", CHECK),
     ("run g t", RUN),
-    ("stop g t 7", STOP),
-    ("stop g t 12345678", STOP),
-    ("stop g t 00000000", STOP),
+    ("stop g t 7", Asked::Judges(2, Status::Done, "at 7\n")),
+    (
+        "stop g t 12345678",
+        Asked::Judges(2, Status::Done, "at 12345678\n"),
+    ),
+    (
+        "stop g t 00000000",
+        Asked::Judges(2, Status::Done, "at 0\n"),
+    ),
     ("set s", SET),
     ("play s p", PLAY),
     ("replay s", REPLAY),

@@ -6,3 +6,5 @@
 
 #[cfg(test)]
 mod channels;
+#[cfg(test)]
+mod wide;

@@ -1,10 +1,5 @@
 pub mod Lemmas
 mod Answered
-mod FirstShapes
-mod PlainShapes
-mod Runs
-mod TraceLines
-mod TraceNumbers
-mod TracePeriod
-mod TraceSplits
-mod TraceTexts
+mod Traces
+mod Values
+mod VarLines

@@ -1,58 +1,56 @@
 -- Why a verdict on a run comes, by the texts of the graph and of the trace, and its text.
-use Rattle.std.specs.Prelude.{◌≡◌, ℕ, List, Some, None, codes}
+use Rattle.std.specs.Prelude.{◌≡◌, ℕ, ◌<◌, ◌≤◌, List, Ok, codes}
 use Rattle.yt_admit.specs.Causes.{GraphCause, IsGraphText, graph_verdict}
 use Rattle.yt_answer.specs.declared.verdict.Verdict.{Verdict}
-use Rattle.yt_answer.specs.declared.verdict.Verdict.TheVariants.{Done, NotYet, Trace}
-use Rattle.yt_answer.specs.Due.{not_yet_line}
+use Rattle.yt_answer.specs.declared.verdict.Verdict.TheVariants.{Done, Trace}
+use Rattle.yt_bound.specs.Bounds.{job_bound}
 use Rattle.yt_fitting.specs.Loads.{IsLoadText, LoadCause, load_verdict}
-use Rattle.yt_graph.specs.AstPicture.{ItemTree}
 use Rattle.yt_graph.specs.Labels.{labels_of}
 use Rattle.yt_graph.specs.Picture.{GraphTree}
 use Rattle.yt_rates.specs.Tables.{tasks_of}
-use Rattle.yt_run.specs.First.{the_period}
-use Rattle.yt_cmd_run.specs.declared.trace.fault.TraceFault.{TraceFault}
-use Rattle.yt_cmd_run.specs.Runs.{IsNotRunYet, IsRun, Reads}
-use Rattle.yt_cmd_run.specs.TraceText.{fault_in, fault_text}
+use Rattle.yt_runner.specs.Limits.{most_jobs_and_lines}
+use Rattle.yt_trace.specs.declared.message.Message.{Message}
+use Rattle.yt_trace.specs.declared.read.TraceFault.{TraceFault}
+use Rattle.yt_trace.specs.declared.read.TraceFault.TheVariants.{Memory}
+use Rattle.yt_trace.specs.TraceText.{IsFaultOf, trace_of}
+use Rattle.yt_cmd_run.specs.Lines.{IsTraceLine, jobs_line}
+use Rattle.yt_cmd_run.specs.Runs.{IsRun, IsStop}
 
--- why a verdict on the text of a trace comes, for a graph that fits, with its tree: the graph or the trace is none of those that are run
--- so far; or the trace breaks the input's period, with this first fault; or it doesn't
-pub data TraceCause (items : List ItemTree) (graph : GraphTree) (trace : List ℕ) : Type 0 where
-  not_run : IsNotRunYet items graph trace → TraceCause items graph trace
-  at_fault : (read : Reads items graph trace) (fault : TraceFault) → fault_in (the_period graph) read.messages ≡ Some fault → TraceCause items graph trace
-  legal : (read : Reads items graph trace) → fault_in (the_period graph) read.messages ≡ None → TraceCause items graph trace
+-- why a verdict on the text of a trace comes, for a graph that fits: it has this first line at fault; or it says these messages, of which
+-- a run may come to too many jobs and lines, or to few enough
+pub data TraceCause (graph : GraphTree) (trace : List ℕ) : Type 0 where
+  at_fault : (fault : TraceFault) → IsFaultOf graph trace fault → (fault ≡ Memory → ⊥) → TraceCause graph trace
+  too_long : (messages : List Message) → trace_of graph trace ≡ Ok messages → most_jobs_and_lines < job_bound graph messages → TraceCause graph trace
+  legal : (messages : List Message) → trace_of graph trace ≡ Ok messages → job_bound graph messages ≤ most_jobs_and_lines → TraceCause graph trace
 
 -- the verdict
-abbrev pub trace_verdict : {items : List ItemTree} {graph : GraphTree} {trace : List ℕ} → TraceCause items graph trace → Verdict
-trace_verdict (not_run is) = NotYet
-trace_verdict (at_fault read fault found) = Trace
-trace_verdict (legal read kept) = Done
+abbrev pub trace_verdict : {graph : GraphTree} {trace : List ℕ} → TraceCause graph trace → Verdict
+trace_verdict (at_fault fault is not_memory) = Trace
+trace_verdict (too_long messages is more) = Trace
+trace_verdict (legal messages is few) = Done
 
--- its text
-abbrev pub IsTracedText : {items : List ItemTree} {graph : GraphTree} {trace : List ℕ} → TraceCause items graph trace → List ℕ → Type 0
-IsTracedText (not_run is) text = text ≡ not_yet_line
-IsTracedText (at_fault read fault found) text = text ≡ fault_text fault
-IsTracedText {items} {graph} (legal read kept) text = IsRun graph read.messages text
+-- its text, where `Of` is what is told of messages that are run
+abbrev pub IsTracedText : (List Message → List ℕ → Type 0) → {graph : GraphTree} {trace : List ℕ} → TraceCause graph trace → List ℕ → Type 0
+IsTracedText Of (at_fault fault is not_memory) text = IsTraceLine text fault
+IsTracedText Of {graph} (too_long messages is more) text = text ≡ jobs_line (job_bound graph messages)
+IsTracedText Of (legal messages is few) text = Of messages text
 
--- why a verdict on a run comes: the graph's text is refused, or its tasks don't fit, or the trace is judged
+-- why a verdict on a run comes, stopped or not: the graph's text is refused, or its tasks don't fit, or the trace is judged
 abbrev pub RunCause : List ℕ → List ℕ → Type 0
-RunCause graph trace = GraphCause graph (λ items g. LoadCause (tasks_of g) (TraceCause items g trace))
+RunCause graph trace = GraphCause graph (λ items g. LoadCause (tasks_of g) (TraceCause g trace))
 
 -- the verdict
 abbrev pub run_verdict : {graph trace : List ℕ} → RunCause graph trace → Verdict
 run_verdict cause = graph_verdict (λ items g why. load_verdict (λ how. trace_verdict how) why) cause
 
--- its text
+-- its text, where `Of` is what is told of a graph and of messages that are run
+abbrev pub IsToldText : (GraphTree → List Message → List ℕ → Type 0) → {graph trace : List ℕ} → RunCause graph trace → List ℕ → Type 0
+IsToldText Of cause text = IsGraphText (λ items g why told. IsLoadText (codes "graph") (labels_of g) (λ how line. IsTracedText (Of g) how line) why told) cause text
+
+-- of a run it is the run's text
 abbrev pub IsRunText : {graph trace : List ℕ} → RunCause graph trace → List ℕ → Type 0
-IsRunText cause text = IsGraphText (λ items g why told. IsLoadText (codes "graph") (labels_of g) (λ how line. IsTracedText how line) why told) cause text
+IsRunText cause text = IsToldText IsRun cause text
 
--- why a verdict on a run that is stopped comes: the graph's text is refused, or its tasks don't fit, or they do
-abbrev pub StopCause : List ℕ → Type 0
-StopCause graph = GraphCause graph (λ items g. LoadCause (tasks_of g) (Unit {0}))
-
--- the verdict; stopping the run of a graph that fits isn't built yet
-abbrev pub stop_verdict : {graph : List ℕ} → StopCause graph → Verdict
-stop_verdict cause = graph_verdict (λ items g why. load_verdict (λ fit. NotYet) why) cause
-
--- its text
-abbrev pub IsStopText : {graph : List ℕ} → StopCause graph → List ℕ → Type 0
-IsStopText cause text = IsGraphText (λ items g why told. IsLoadText (codes "graph") (labels_of g) (λ fit line. line ≡ not_yet_line) why told) cause text
+-- of a run that is stopped at a tick it is that of the variables there
+abbrev pub IsStopText : ℕ → {graph trace : List ℕ} → RunCause graph trace → List ℕ → Type 0
+IsStopText tick cause text = IsToldText (λ g messages line. IsStop g messages tick line) cause text

@@ -1,3 +1,2 @@
--- How the code tells a graph that is run so far, and takes a text apart.
-pub mod FirstShape
-pub mod Split
+-- What the texts of a graph and of a trace give.
+pub mod Readings

@@ -1,9 +1,11 @@
 //! What is printed of a run.
-ghost use Rattle.std.specs.Prelude.{◌≡◌, ◌++◌, IfOk, OnOk};
+ghost use Rattle.std.specs.Prelude.{◌≡◌, ◌∷◌, ◌++◌, All, IfOk, OnOk};
+ghost use Rattle.std.specs.Fmt.{signed_decimal};
 ghost use Rattle.yt_graph.specs.Labels.{labels_of};
 ghost use Rattle.yt_graph.specs.Picture.{graph_tree};
 ghost use Rattle.yt_log.specs.Segments.{segments_of};
 ghost use Rattle.yt_run.specs.RunText.{out_line, run_text, spaced_values, told_text};
+ghost use Rattle.yt_run_laws.specs.Values.{AreValues};
 
 use crate::names::RunNames;
 use std::alloc::{AllocError, Global};
@@ -16,7 +18,8 @@ use yt_serial::OutLine;
 /// The text of a run: its segments at their ends and its output lines at their times, a segment before the lines of its
 /// end, and then its end. `Err` comes where memory ran out.
 pub(crate) fn run_text(alloc: Global, graph: &Graph, told: &Told) -> Result<Text, AllocError>
-    ensures { IfOk result (λ t. t ≡ run_text (graph_tree graph.now) told.now.log told.now.outs) }
+    ensures text { IfOk result (λ t. t ≡ run_text (graph_tree graph.now) told.now.log told.now.outs) }
+    ensures values { IfOk result (λ t. All (λ line. AreValues line.values) told.now.outs) }
 {
     let names = RunNames::of(alloc, graph)?;
     let mut text = Text::new(alloc);
@@ -28,7 +31,8 @@ pub(crate) fn run_text(alloc: Global, graph: &Graph, told: &Told) -> Result<Text
 /// Adds the segments of a run at their ends and its output lines at their times, a segment before the lines of its end.
 fn put_told(text: &mut Text, names: &RunNames, told: &Told) -> Result<(), AllocError>
     requires { names.now.ports ≡ labels_of (graph_tree names.now.graph.now) }
-    ensures { OnOk result (text.new ≡ text.old ++ told_text (graph_tree names.now.graph.now) (segments_of told.now.log) told.now.outs) }
+    ensures text { OnOk result (text.new ≡ text.old ++ told_text (graph_tree names.now.graph.now) (segments_of told.now.log) told.now.outs) }
+    ensures values { OnOk result (All (λ line. AreValues line.values) told.now.outs) }
 {
     let segments = told.log.segments();
     let lines = told.outs.as_slice();
@@ -48,7 +52,8 @@ fn put_told(text: &mut Text, names: &RunNames, told: &Told) -> Result<(), AllocE
 
 /// Adds an output line.
 fn put_line(text: &mut Text, names: &RunNames, line: &OutLine) -> Result<(), AllocError>
-    ensures { OnOk result (text.new ≡ text.old ++ out_line (graph_tree names.now.graph.now) line.now) }
+    ensures text { OnOk result (text.new ≡ text.old ++ out_line (graph_tree names.now.graph.now) line.now) }
+    ensures values { OnOk result (AreValues line.now.values) }
 {
     text.put(b"out")?;
     text.put_field(line.time)?;
@@ -60,11 +65,19 @@ fn put_line(text: &mut Text, names: &RunNames, line: &OutLine) -> Result<(), All
 
 /// Adds each number behind a space.
 fn put_values(text: &mut Text, values: &[i64]) -> Result<(), AllocError>
-    ensures { OnOk result (text.new ≡ text.old ++ spaced_values values.now) }
+    ensures text { OnOk result (text.new ≡ text.old ++ spaced_values values.now) }
+    ensures values { OnOk result (AreValues values.now) }
 {
     for value in values {
-        text.put(b" ")?;
-        text.put_i64(*value)?;
+        put_value(text, *value)?;
     }
     Ok(())
+}
+
+/// Adds a number behind a space.
+fn put_value(text: &mut Text, value: i64) -> Result<(), AllocError>
+    ensures { OnOk result (text.new ≡ text.old ++ 32 ∷ signed_decimal value) }
+{
+    text.put(b" ")?;
+    text.put_i64(value)
 }

@@ -1,7 +1,5 @@
 -- The lemmas that proofs of other crates cite.
 pub use Rattle.yt_run.proofs.Faithful.{faithful_texts}
-pub use Rattle.yt_run.proofs.Pieces.{list_all-weaker}
 pub use Rattle.yt_run.proofs.PrintedLines.{IsReadableJob, IsReadableLine}
 pub use Rattle.yt_run.proofs.ReadBack.{read_back-run_text}
-pub use Rattle.yt_run.proofs.ReadBackFirst.{HasReadableNames-first}
 pub use Rattle.yt_run.proofs.ReadBackSegments.{segments_of-jobs}

@@ -5,7 +5,9 @@ use Rattle.std.specs.Int.{int_wrap}
 use Rattle.std.specs.Option.{unwrap_or}
 use Rattle.std.specs.Fmt.{digits}
 use Rattle.yt_graph.specs.Cost.{greatest_cost}
-use Rattle.yt_graph.specs.Picture.{GraphTree}
+use Rattle.yt_graph.specs.declared.expr.Op2.TheVariants.{Add}
+use Rattle.yt_graph.specs.declared.port.Feed.TheVariants.{Input}
+use Rattle.yt_graph.specs.Picture.{GraphTree, PortTree, BlockTree, more, empty, send, more_exprs, no_exprs, two, local, num}
 use Rattle.yt_log.specs.declared.job.Job.{Job}
 use Rattle.yt_log.specs.declared.plan.PlanItem.{PlanItem}
 use Rattle.yt_log.specs.EdfDdm.{lowered, current_deadline, rank, waits, sooner, least, job_of, choice}
@@ -19,24 +21,36 @@ use Rattle.yt_rates.specs.Tables.{tasks_of}
 use Rattle.yt_serial.specs.declared.shown.OutLine.{OutLine}
 use Rattle.yt_trace.specs.declared.message.Message.{Message}
 use Rattle.yt_serial.specs.Beginnings.{newcomer, begun_below, order_of, busy_until}
-use Rattle.yt_run.specs.First.{the_message, the_number, the_port, graph_of}
 use Rattle.yt_trace.specs.Traces.{PortMessage}
 use Rattle.yt_list.specs.Numbered.{numbered}
 use Rattle.yt_run.specs.RunText.{run_text, read_back}
 use Rattle.yt_serial.specs.SerialHandling.{Handled, Serial, handled_of, handled_along, plan_of_log}
 use Rattle.yt_serial.specs.Told.{line_before, latest, IsPromisedRun}
 
-abbrev blink : GraphTree
-blink = graph_of (record {
-  input = codes "tick";
-  output = codes "led";
+-- the handler sends its number and 1, added
+abbrev adds_one : BlockTree
+adds_one = more (send 1 (more_exprs (two Add (local 0) (num (pos 1))) no_exprs)) empty
+
+abbrev port_a : PortTree
+port_a = record {
   process = codes "p";
-  port = codes "a";
-  out = codes "o";
-  period = 10;
-  operand = the_message;
-  operands = the_number 1 ∷ [];
-})
+  name = codes "a";
+  feed = Input 1;
+  group = 0;
+  params = 1;
+  locals = 1;
+  outs = record { name = codes "o"; width = 1; every = 1 } ∷ [];
+  body = adds_one;
+}
+
+abbrev blink : GraphTree
+blink = record {
+  inputs = record { name = codes "tick"; width = 1; period = 10 } ∷ [];
+  outputs = record { name = codes "led"; port = 1; out = 1 } ∷ [];
+  groups = [];
+  vars = [];
+  ports = port_a ∷ [];
+}
 
 abbrev seven : List Message
 seven = (record { time = 0; input = 1; values = pos 7 ∷ [] }) ∷ []
@@ -53,7 +67,7 @@ eight = (record { time = 10; output = 1; values = pos 8 ∷ [] }) ∷ []
 abbrev plan : List PlanItem
 plan = (record { job = first_job; arrival = 0; cost = 5 }) ∷ []
 
-costs : greatest_cost (the_port blink) ≡ 5
+costs : greatest_cost port_a ≡ 5
 costs = refl
 
 order : order_of log ≡ first_job ∷ []

@@ -1,5 +1,3 @@
-pub mod First
 pub mod Laws
 pub mod Readable
 pub mod RunText
-pub mod Inside

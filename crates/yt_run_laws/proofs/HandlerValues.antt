@@ -1,6 +1,6 @@
 -- Handlers make values of values, by recursion on their pictures.
-use Rattle.std.proofs.Common.{◌≡◌, ℕ, zero, suc, ◌+◌, ◌-◌, ◌<◌, ◌≤◌, Bool, true, false, not, List, [], ◌∷◌, length, sym, subst, ⊎_elim, arith, get_or}
-use Rattle.std.specs.Prelude.{ℤ, pos, negsuc, neg_ℤ, ◌+ℤ◌, ◌-ℤ◌, ◌*ℤ◌, ◌||◌, ◌&&◌, int_lt, int_le, int_div, int_rem, replicate, if◌then◌else◌}
+use Rattle.std.proofs.Common.{ℕ, zero, suc, ◌+◌, ◌-◌, ◌<◌, ◌≤◌, Bool, true, false, not, List, length, sym, subst, ⊎_elim, arith, get_or}
+use Rattle.std.specs.Prelude.{ℤ, pos, negsuc, neg_ℤ, ◌+ℤ◌, ◌-ℤ◌, ◌*ℤ◌, ◌||◌, ◌&&◌, int_lt, int_le, int_div, int_rem, replicate}
 use Rattle.std.specs.Int.{w64, int_wrap, int_min, int_max, int_signum}
 use Rattle.std.specs.Ordering.{int_eq}
 use Rattle.std.specs.List.{All}
@@ -11,7 +11,7 @@ use Rattle.std.proofs.lemmas.List.Elements.{All-nil, All-cons, All-push, All-set
 use lib.Signed.{mag_rem}
 use Rattle.yt_graph.specs.declared.expr.Op2.{Op2}
 use Rattle.yt_graph.specs.declared.expr.Op2.TheVariants.{Or, And, Lt, Le, Gt, Ge, Eq, Ne, Add, Sub, Mul, Div, Rem}
-use Rattle.yt_graph.specs.Meaning.{Run, is_not_zero, truth, neg_value, not_value, two_value, op_value, call_value, expr_value, all_values, expr_ticks, spend, choose, turns_of, turns, stmt_run, block_run, start}
+use Rattle.yt_graph.specs.Meaning.{Run, is_not_zero, truth, neg_value, two_value, op_value, expr_value, all_values, expr_ticks, spend, choose, turns_of, turns, stmt_run, block_run, start}
 use Rattle.yt_graph.specs.Picture.{ExprTree, num, local, var, neg, lnot, two, call, ExprsTree, no_exprs, more_exprs, StmtTree, set_local, set_var, send, if_only, if_else, repeat, BlockTree, empty, more}
 use Rattle.yt_run_laws.specs.Values.{IsValue, AreValues, ExprWritesValues, ExprsWriteValues, StmtWritesValues, BlockWritesValues}
 use Rattle.yt_run_laws.specs.KeepingValues.{HandlersKeepValues}

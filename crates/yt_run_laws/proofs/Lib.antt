@@ -1,3 +1,4 @@
+pub mod Lemmas
 mod HandlerValues
 mod ReadableNames
 mod ReadingBack

@@ -19,7 +19,8 @@ pub fn serial_handling_keeps_values()
     ensures { SerialHandlingKeepsValues }
 {}
 
-/// The text of each promised run, of a graph and a trace that have numbers of 64 bits alone, is read back as its log and its lines.
+/// The text of each promised run whose lines have numbers of 64 bits alone is read back as its log and its lines; and so is that of each
+/// promised run of a graph and a trace that have such numbers alone.
 pub fn runs_read_back()
     ensures { RunsReadBack }
 {}

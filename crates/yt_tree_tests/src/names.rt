@@ -1,6 +1,7 @@
 //! What the names of trees stand for, and what is wrong with them.
 
 use crate::trees::tree_of;
+use std::alloc::{AllocError, Global};
 use std::process::Abort;
 use std::test::Fail;
 use yt_graph::{Feed, Place};
@@ -197,4 +198,123 @@ fn a_tree_at_its_limits_is_resolved(rt: HostRuntime) -> Result<(), Fail> {
     assert_eq!(rt; (port.group, port.params, port.locals), (0, 0, 16));
     assert_eq!(rt; port.outs.len(), 8);
     Ok(())
+}
+
+/// A graph with many parts of one kind: what stands before the first, before and behind the number of each, and behind the last; how many
+/// there may be; of what one more is a fault, and where; and how many outputs, ports and variables the graph has that is just allowed.
+#[derive(Clone, Copy)]
+struct Many {
+    begin: &'static str,
+    before: &'static str,
+    behind: &'static str,
+    end: &'static str,
+    most: u16,
+    kind: LimitKind,
+    place: Place,
+    counts: [usize; 3],
+}
+
+impl Many {
+    /// The text with so many parts.
+    fn text(&self, alloc: Global, count: u16) -> Result<String, AllocError> {
+        let mut text = String::new(alloc);
+        text.push_str(self.begin)?;
+        for number in 0..count {
+            write!(text, "{}{number}{}", self.before, self.behind)?;
+        }
+        text.push_str(self.end)?;
+        Ok(text)
+    }
+}
+
+/// Graphs with as many outputs, processes, ports and variables as there may be.
+const MANY: &[Many] = &[
+    Many {
+        begin: "input t(0)period 1 process p{port a from t()out o(0){}}\n",
+        before: "output n",
+        behind: " from p.a.o\n",
+        end: "",
+        most: 16,
+        kind: LimitKind::Outputs,
+        place: Place { line: 18, col: 8 },
+        counts: [16, 1, 0],
+    },
+    Many {
+        begin: "",
+        before: "process n",
+        behind: "{var x=0}\n",
+        end: "",
+        most: 64,
+        kind: LimitKind::Processes,
+        place: Place { line: 65, col: 9 },
+        counts: [0, 0, 64],
+    },
+    Many {
+        begin: "input t(0)period 1 process p{\n",
+        before: "port n",
+        behind: " from t(){}\n",
+        end: "}",
+        most: 64,
+        kind: LimitKind::Ports,
+        place: Place { line: 66, col: 6 },
+        counts: [0, 64, 0],
+    },
+    Many {
+        begin: "input t(0)period 1 process p{port a from t(){}\nport z from t(){}}process q{port c from t(){}}process r{\n",
+        before: "port n",
+        behind: " from t(){}\n",
+        end: "}",
+        most: 61,
+        kind: LimitKind::Ports,
+        place: Place { line: 64, col: 6 },
+        counts: [0, 64, 0],
+    },
+    Many {
+        begin: "process p{\n",
+        before: "var n",
+        behind: "=0\n",
+        end: "}",
+        most: 256,
+        kind: LimitKind::Variables,
+        place: Place { line: 258, col: 5 },
+        counts: [0, 0, 256],
+    },
+    Many {
+        begin: "process p{var a=0\nvar z=0}process q{var c=0}process r{\n",
+        before: "var n",
+        behind: "=0\n",
+        end: "}",
+        most: 253,
+        kind: LimitKind::Variables,
+        place: Place { line: 256, col: 5 },
+        counts: [0, 0, 256],
+    },
+];
+
+/// Checks that each graph is resolved with as many parts as there may be, and refused with one more.
+fn judge_many(rt: &(impl Abort + AllocGlobal), rows: &[Many]) -> Result<(), Fail> {
+    let alloc = rt.alloc();
+    for row in rows {
+        let ast = tree_of(alloc, &row.text(alloc, row.most)?)?;
+        let graph = resolve(alloc, &ast, &[]).ok().ok_or("a fault")?;
+        assert_eq!(rt;
+            [graph.outputs.len(), graph.ports.len(), graph.vars.len()],
+            row.counts,
+            "at {}",
+            row.before
+        );
+        let past = tree_of(alloc, &row.text(alloc, row.most.saturating_add(1))?)?;
+        assert_eq!(rt;
+            resolve(alloc, &past, &[]).err(),
+            Some(NameFault::Limit(row.place, row.kind)),
+            "past {}",
+            row.before
+        );
+    }
+    Ok(())
+}
+
+#[test]
+fn limits_hold_at_them_and_one_past(rt: HostRuntime) -> Result<(), Fail> {
+    judge_many(&rt, MANY)
 }

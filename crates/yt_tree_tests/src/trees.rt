@@ -10,7 +10,7 @@ use yt_parser::parse;
 /// The tree of a text without a fault, cut off where it is long.
 pub(crate) fn tree_of(alloc: Global, text: &str) -> Result<Ast, Fail> {
     let bytes = text.as_bytes();
-    let front = &bytes[..bytes.len().min(2000)];
+    let front = &bytes[..bytes.len().min(4000)];
     let Ok(tokens) = lex(alloc, front) else {
         return Err("a fault of tokens".into());
     };

@@ -4,7 +4,7 @@ use Rattle.yt_cmd_check.specs.Tasks.{IsTasksText, TasksCause, tasks_verdict}
 use Rattle.yt_cmd_form.specs.Form.{FormCause, IsFormText, form_verdict}
 use Rattle.yt_cmd_play.specs.Causes.{IsPlayText, PlayCause, play_verdict}
 use Rattle.yt_cmd_replay.specs.Causes.{IsReplayText, ReplayCause, replay_verdict}
-use Rattle.yt_cmd_run.specs.Causes.{IsRunText, IsStopText, RunCause, StopCause, run_verdict, stop_verdict}
+use Rattle.yt_cmd_run.specs.Causes.{IsRunText, IsStopText, RunCause, run_verdict}
 use Rattle.yt_cmd_set.specs.Judged.{IsJudgedText, JudgedSetCause, judged_verdict}
 use Rattle.yartos.specs.declared.words.Command.TheVariants.{Form, Tasks, Check, Run, Stop, Set, Replay, Play}
 use Rattle.yartos.specs.Reads.{IsRead}
@@ -89,7 +89,7 @@ returns-in_ok-stop_answer-in-Stop-clause-due g c =
     let is = subst (λ b. IsRead told name b) (sym c.deref-in-Stop.ensures.value) c.in_ok-graph-in-Stop.ensures.first in
     let too = subst (λ b. IsRead told other b) (sym c.deref-in-Stop-2.ensures.value) c.in_ok-graph-in-Stop.ensures.second in
     by_command told c.args.command (Stop c.in-Stop.graph c.in-Stop.trace c.in-Stop.tick) answer.verdict answer.text c.in-Stop.is
-    (files_due told name other x y (λ g t. StopCause g) (λ g t why. stop_verdict why) (λ g t why. IsStopText why) answer.verdict answer.text is too c.in_ok-stop_answer-in-Stop.ensures)
+    (files_due told name other x y (λ g t. RunCause g t) (λ g t why. run_verdict why) (λ g t why. IsStopText c.in-Stop.tick why) answer.verdict answer.text is too c.in_ok-stop_answer-in-Stop.ensures)
 
 pub returns-in_ok-replay_answer-in-Replay-clause-due : goal.returns-in_ok-replay_answer-in-Replay-clause-due
 returns-in_ok-replay_answer-in-Replay-clause-due g c =

@@ -1,2 +1,0 @@
--- One task whose jobs run alone, as proofs of runs of one port speak of it.
-pub mod Alone

@@ -1,0 +1,9 @@
+mod Delivering
+mod Feeding
+mod Room
+mod Rounds
+mod Starts
+mod Taking
+mod Ticking
+mod Vars
+mod Waiting
